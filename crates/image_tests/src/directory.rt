@@ -56,8 +56,8 @@ fn assert_fields(rt: &impl Abort, bytes: &[u8]) {
 
 #[test]
 fn least_counts_go_by_samples_and_strips(rt: HostRuntime) {
-    assert_eq!(rt; least_count(258, 4, 1), 4);
-    assert_eq!(rt; least_count(279, 4, 7), 7);
+    assert!(rt; least_count(258, 4, 1) == 4);
+    assert!(rt; least_count(279, 4, 7) == 7);
 }
 
 #[test]
@@ -109,9 +109,6 @@ fn names_each_cut(rt: HostRuntime) {
 fn takes_the_first_entry(rt: HostRuntime) {
     // The entry of 257 becomes a second one of 256.
     let bytes = changed(LEAST_FIRST, &[(22, 0)]);
-    assert_eq!(rt; number(&bytes, 256, 0, 1), Ok(4));
-    assert_eq!(rt;
-        number(&bytes, 257, 0, 1),
-        Err(fault(257, FaultKind::Missing))
-    );
+    assert!(rt; number(&bytes, 256, 0, 1) == Ok(4));
+    assert!(rt; number(&bytes, 257, 0, 1) == Err(fault(257, FaultKind::Missing)));
 }

@@ -1,12 +1,10 @@
 // Parts of rows: the bytes of each run of columns, after rows that are skipped.
 ghost use Rattle.std.specs.Prelude.{◌≡◌, ◌+◌, ◌<◌, ◌≤◌};
-ghost use Rattle.tif_strips.specs.Strips.{IsStriped};
+ghost use Rattle.tif_strips.specs.Strips.{IsStriped, planes};
 
 use crate::files::changed;
-use crate::strips::{EIGHT_STRIPS, PLANES};
-use pr_base::TagFault;
+use crate::strips::{EIGHT_STRIPS, FIVE_ROWS, LONGER, PLANE_ROWS, PLANES, THREE_STRIPS};
 use std::process::Abort;
-use std::test::Fail;
 use tif_dir::read_dir;
 use tif_strips::{RowCursor, Shape, Strips};
 
@@ -19,39 +17,38 @@ const PACKED: [u8; 50] = [
 ];
 
 // Asserts each part of these rows, from each column on.
-fn assert_parts<const N: usize>(
-    rt: &impl Abort,
-    bytes: &[u8],
-    shape: Shape,
-    rows: &[[u8; N]],
-) -> Result<(), TagFault>
+fn assert_parts<const N: usize>(rt: &impl Abort, bytes: &[u8], shape: Shape, rows: &[[u8; N]])
     requires { IsStriped shape }
 {
-    let dir = read_dir(bytes)?;
-    let strips = Strips::check(bytes, &dir, shape)?;
+    let dir = read_dir(bytes).expect(rt, "no directory");
+    let strips = Strips::check(bytes, &dir, shape).expect(rt, "no strips");
     for first in 0..shape.width {
-        assert_parts_from(rt, &strips, shape, first, rows);
+        assert!(rt;
+            has_parts_from(&strips, shape, first, rows),
+            "from column {first}"
+        );
     }
-    Ok(())
 }
 
-fn assert_parts_from<const N: usize>(
-    rt: &impl Abort,
+// Returns whether an image has each part of these rows from this column on.
+fn has_parts_from<const N: usize>(
     strips: &Strips<'_>,
     shape: Shape,
     first: u32,
     rows: &[[u8; N]],
-)
+) -> bool
     requires shape { strips.now.shape ≡ shape }
     requires within { (first < shape.width) × (shape.width ≤ 65535) }
 {
     for count in 1..shape.width - first + 1 {
-        let (from, to) = place_of(shape, first, count);
+        let place = place_of(shape, first, count);
         for above in 0..rows.len() {
-            let cursor = behind(rt, strips.rows(), above);
-            assert_part(rt, cursor, first, count, from, to, &rows[above..]);
+            if !has_part_behind(strips.rows(), above, first, count, place, &rows[above..]) {
+                return false;
+            }
         }
     }
+    true
 }
 
 // Returns the offsets in a row of the first byte of these columns and of the end of the last.
@@ -66,77 +63,102 @@ fn place_of(shape: Shape, first: u32, count: u32) -> (usize, usize)
     }
 }
 
-// Returns the cursor so many rows further on; it skips them in two steps.
-fn behind<'a>(rt: &impl Abort, mut cursor: RowCursor<'a>, rows: usize) -> RowCursor<'a>
-    ensures { result.shape ≡ cursor.entry.shape }
+// Skips so many rows in two steps, and returns whether these columns of the rows that are left are those of
+// `rows`.
+fn has_part_behind<const N: usize>(
+    mut cursor: RowCursor<'_>,
+    above: usize,
+    first: u32,
+    count: u32,
+    place: (usize, usize),
+    rows: &[[u8; N]],
+) -> bool
+    requires { first + count ≤ cursor.shape.width }
 {
-    assert!(rt; rows <= cursor.left() as usize);
-    let half = rows as u32 / 2;
+    if above > cursor.left() as usize {
+        return false;
+    }
+    let half = above as u32 / 2;
     cursor.skip_rows(half);
-    cursor.skip_rows(rows as u32 - half);
-    cursor
+    cursor.skip_rows(above as u32 - half);
+    has_part(cursor, first, count, place, rows)
 }
 
-// Asserts that these rows are left and no others, and that these columns of each are its bytes `from` to
-// `to`, exclusive.
-fn assert_part<const N: usize>(
-    rt: &impl Abort,
+// Returns whether these rows are left and no others, and these columns of each are its bytes at `place`, from
+// an offset to an end.
+fn has_part<const N: usize>(
     mut cursor: RowCursor<'_>,
     first: u32,
     count: u32,
-    from: usize,
-    to: usize,
+    place: (usize, usize),
     rows: &[[u8; N]],
-)
+) -> bool
     requires { first + count ≤ cursor.shape.width }
 {
+    let (from, to) = place;
     for row in rows {
-        assert!(rt; cursor.left() > 0);
-        let mut into = [0xee; N];
         let len = cursor.part_len(first, count);
-        assert!(rt; len <= N);
-        let part = &mut into[..len];
-        cursor.next_part(first, count, part);
-        assert_bytes(rt, part, row, from, to);
+        if cursor.left() == 0 || len > N {
+            return false;
+        }
+        let mut into = [0xee; N];
+        cursor.next_part(first, count, &mut into[..len]);
+        if row.get(from..to) != Some(&into[..len]) {
+            return false;
+        }
     }
-    assert!(rt; cursor.left() == 0);
+    cursor.left() == 0
 }
 
-fn assert_bytes(rt: &impl Abort, part: &[u8], row: &[u8], from: usize, to: usize) {
-    assert!(rt; from <= to && to <= row.len());
-    assert!(rt; part == &row[from..to]);
-}
-
-#[test]
-fn columns_of_each_plane(rt: HostRuntime) -> Result<(), Fail> {
-    let dir = read_dir(&EIGHT_STRIPS)?;
-    let strips = Strips::check(&EIGHT_STRIPS, &dir, PLANES)?;
-    let mut cursor = strips.rows();
-    assert!(&rt; cursor.has_planes() && cursor.left() == 2);
+// Returns whether columns 1 to 3 of cyan, 1 and 2 of magenta and 1 of black in the next row are these.
+fn has_some_columns(cursor: &mut RowCursor<'_>) -> bool
+    requires left { cursor.old.next < cursor.old.shape.length }
+    requires planes { planes cursor.old.shape ≡ 4 }
+    requires width { cursor.old.shape.width ≡ 4 }
+    ensures { cursor.new ≡ record cursor.old { next = cursor.old.next + 1 } }
+{
     let (mut cyan, mut magenta, mut yellow, mut black) = ([0; 3], [0; 2], [0; 0], [0; 1]);
     cursor.next_planes(1, &mut cyan, &mut magenta, &mut yellow, &mut black);
-    assert!(&rt; cyan == [2, 3, 4] && magenta == [12, 13] && black == [32]);
+    cyan == [2, 3, 4] && magenta == [12, 13] && black == [32]
+}
+
+// Returns whether all columns of the next row are these.
+fn has_all_columns(cursor: &mut RowCursor<'_>) -> bool
+    requires left { cursor.old.next < cursor.old.shape.length }
+    requires planes { planes cursor.old.shape ≡ 4 }
+    requires width { cursor.old.shape.width ≡ 4 }
+{
     let (mut cyan, mut magenta, mut yellow, mut black) = ([0; 4], [0; 4], [0; 4], [0; 4]);
     cursor.next_planes(0, &mut cyan, &mut magenta, &mut yellow, &mut black);
-    assert!(&rt; cyan == [5, 6, 7, 8] && magenta == [15, 16, 17, 18]);
-    assert!(&rt; yellow == [25, 26, 27, 28] && black == [35, 36, 37, 38]);
-    assert!(&rt; cursor.left() == 0);
-    Ok(())
+    [cyan, magenta, yellow, black]
+        == [
+            [5, 6, 7, 8],
+            [15, 16, 17, 18],
+            [25, 26, 27, 28],
+            [35, 36, 37, 38],
+        ]
+}
+
+fn has_columns(mut cursor: RowCursor<'_>) -> bool
+    requires { cursor.shape ≡ PLANES }
+{
+    cursor.has_planes()
+        && cursor.left() == 2
+        && has_some_columns(&mut cursor)
+        && has_all_columns(&mut cursor)
+        && cursor.left() == 0
 }
 
 #[test]
-fn parts_of_one_plane(rt: HostRuntime) -> Result<(), Fail> {
-    // Five rows of bits in three strips.
-    let bits = Shape {
-        width: 16,
-        length: 5,
-        samples: 1,
-        bits: 1,
-        rows_per_strip: 2,
-        ..PLANES
-    };
-    let rows = [[1, 2], [3, 4], [5, 6], [7, 8], [11, 12]];
-    assert_parts(&rt, &EIGHT_STRIPS, bits, &rows)?;
+fn columns_of_each_plane(rt: HostRuntime) {
+    let dir = read_dir(&EIGHT_STRIPS).expect(&rt, "no directory");
+    let strips = Strips::check(&EIGHT_STRIPS, &dir, PLANES).expect(&rt, "no strips");
+    assert!(&rt; has_columns(strips.rows()));
+}
+
+#[test]
+fn parts_of_one_plane(rt: HostRuntime) {
+    assert_parts(&rt, &EIGHT_STRIPS, THREE_STRIPS, &FIVE_ROWS);
     // Two pixels of four samples, interleaved.
     let inks = Shape {
         width: 2,
@@ -144,13 +166,12 @@ fn parts_of_one_plane(rt: HostRuntime) -> Result<(), Fail> {
         planar: 1,
         ..PLANES
     };
-    let bytes = changed(EIGHT_STRIPS, &[(50, 8)]);
-    assert_parts(&rt, &bytes, inks, &[[1, 2, 3, 4, 5, 6, 7, 8]])?;
-    Ok(())
+    let bytes = changed(EIGHT_STRIPS, &LONGER);
+    assert_parts(&rt, &bytes, inks, &[[1, 2, 3, 4, 5, 6, 7, 8]]);
 }
 
 #[test]
-fn parts_of_packed_rows(rt: HostRuntime) -> Result<(), Fail> {
+fn parts_of_packed_rows(rt: HostRuntime) {
     let rows = [[1, 2, 3, 4, 5, 6, 7, 7], [7, 7, 11, 12, 13, 14, 15, 16]];
     let inks = Shape {
         width: 2,
@@ -159,35 +180,31 @@ fn parts_of_packed_rows(rt: HostRuntime) -> Result<(), Fail> {
         rows_per_strip: 2,
         ..PLANES
     };
-    assert_parts(&rt, &PACKED, inks, &rows)?;
+    assert_parts(&rt, &PACKED, inks, &rows);
     let bits = Shape {
         width: 64,
         samples: 1,
         bits: 1,
         ..inks
     };
-    assert_parts(&rt, &PACKED, bits, &rows)?;
-    Ok(())
+    assert_parts(&rt, &PACKED, bits, &rows);
 }
 
+// The first byte of each of the eight strips becomes the header of three literal bytes.
+const HEADS: [(usize, u8); 8] = [
+    (58, 2),
+    (62, 2),
+    (66, 2),
+    (70, 2),
+    (74, 2),
+    (78, 2),
+    (82, 2),
+    (86, 2),
+];
+
 #[test]
-fn parts_of_four_planes(rt: HostRuntime) -> Result<(), Fail> {
-    let rows = [
-        [1, 11, 21, 31, 2, 12, 22, 32, 3, 13, 23, 33, 4, 14, 24, 34],
-        [5, 15, 25, 35, 6, 16, 26, 36, 7, 17, 27, 37, 8, 18, 28, 38],
-    ];
-    assert_parts(&rt, &EIGHT_STRIPS, PLANES, &rows)?;
-    // The first byte of each strip is the header of three literal bytes.
-    let heads: [(usize, u8); 8] = [
-        (58, 2),
-        (62, 2),
-        (66, 2),
-        (70, 2),
-        (74, 2),
-        (78, 2),
-        (82, 2),
-        (86, 2),
-    ];
+fn parts_of_four_planes(rt: HostRuntime) {
+    assert_parts(&rt, &EIGHT_STRIPS, PLANES, &PLANE_ROWS);
     let packed = Shape {
         width: 3,
         packed: true,
@@ -197,6 +214,5 @@ fn parts_of_four_planes(rt: HostRuntime) -> Result<(), Fail> {
         [2, 12, 22, 32, 3, 13, 23, 33, 4, 14, 24, 34],
         [6, 16, 26, 36, 7, 17, 27, 37, 8, 18, 28, 38],
     ];
-    assert_parts(&rt, &changed(EIGHT_STRIPS, &heads), packed, &rows)?;
-    Ok(())
+    assert_parts(&rt, &changed(EIGHT_STRIPS, &HEADS), packed, &rows);
 }

@@ -6,13 +6,12 @@ use crate::files::changed;
 use pr_base::{FaultKind, TagFault};
 use std::alloc::Global;
 use std::process::Abort;
-use std::test::Fail;
 use std::thread::Threads;
 use tif_dir::read_dir;
 use tif_strips::{RowCursor, Shape, Strips};
 
-// Eight pixels a row of one bit each; two rows in one packed strip, a packet at byte 34.
-const BITS: Shape = Shape {
+/// Eight pixels a row of one bit each; two rows in one packed strip, in `PACKET` a packet at byte 34.
+pub const BITS: Shape = Shape {
     width: 8,
     length: 2,
     samples: 1,
@@ -29,7 +28,7 @@ const PACKET: [u8; 36] = [
     0xff, 0xaa, // 34
 ];
 
-// Four pixels of four inks a row, two rows, a plane for each ink and a strip for each row.
+/// Four pixels of four inks a row, two rows, a plane for each ink and a strip for each row.
 pub const PLANES: Shape = Shape {
     width: 4,
     length: 2,
@@ -40,6 +39,29 @@ pub const PLANES: Shape = Shape {
     rows_per_strip: 1,
 };
 
+/// The pixels of `PLANES` in `EIGHT_STRIPS`.
+pub const PLANE_ROWS: [[u8; 16]; 2] = [
+    [1, 11, 21, 31, 2, 12, 22, 32, 3, 13, 23, 33, 4, 14, 24, 34],
+    [5, 15, 25, 35, 6, 16, 26, 36, 7, 17, 27, 37, 8, 18, 28, 38],
+];
+
+/// Five rows of bits in three strips: the last strip has one.
+pub const THREE_STRIPS: Shape = Shape {
+    width: 16,
+    length: 5,
+    samples: 1,
+    bits: 1,
+    rows_per_strip: 2,
+    ..PLANES
+};
+
+/// The rows of `THREE_STRIPS` in `EIGHT_STRIPS`.
+pub const FIVE_ROWS: [[u8; 2]; 5] = [[1, 2], [3, 4], [5, 6], [7, 8], [11, 12]];
+
+/// The change to `EIGHT_STRIPS` by which its first strip has eight bytes.
+pub const LONGER: [(usize, u8); 1] = [(50, 8)];
+
+/// The directory of two fields, and the strips of eight rows.
 pub const EIGHT_STRIPS: [u8; 98] = [
     0x4d, 0x4d, 0x00, 0x2a, 0x00, 0x00, 0x00, 0x08, 0x00, 0x02, //
     0x01, 0x11, 0x00, 0x03, 0x00, 0x00, 0x00, 0x08, 0x00, 0x00, 0x00, 0x22, // 273 SHORT 8 at 34
@@ -62,37 +84,35 @@ fn check(bytes: &[u8], shape: Shape) -> Result<(), TagFault>
 }
 
 // Asserts that the image has exactly these rows.
-fn assert_image<const N: usize>(
-    rt: &impl Abort,
-    bytes: &[u8],
-    shape: Shape,
-    rows: &[[u8; N]],
-) -> Result<(), TagFault>
+fn assert_image<const N: usize>(rt: &impl Abort, bytes: &[u8], shape: Shape, rows: &[[u8; N]])
     requires striped { IsStriped shape }
     requires size { row_length shape ≡ N }
 {
-    let dir = read_dir(bytes)?;
-    let strips = Strips::check(bytes, &dir, shape)?;
-    assert_rows(rt, strips.rows(), rows);
-    Ok(())
+    let dir = read_dir(bytes).expect(rt, "no directory");
+    let strips = Strips::check(bytes, &dir, shape).expect(rt, "no strips");
+    assert!(rt; has_rows(strips.rows(), rows));
 }
 
-/// Asserts that these rows are left, and no others.
-pub fn assert_rows<const N: usize>(rt: &impl Abort, mut cursor: RowCursor<'_>, rows: &[[u8; N]])
+/// Returns whether these rows are left, and no others.
+pub fn has_rows<const N: usize>(mut cursor: RowCursor<'_>, rows: &[[u8; N]]) -> bool
     requires { row_length cursor.shape ≡ N }
 {
     for row in rows {
-        assert!(rt; cursor.left() > 0);
+        if cursor.left() == 0 {
+            return false;
+        }
         let mut into = [0xee; N];
         cursor.next_row(&mut into);
-        assert!(rt; into == *row);
+        if into != *row {
+            return false;
+        }
     }
-    assert!(rt; cursor.left() == 0);
+    cursor.left() == 0
 }
 
 #[test]
-fn packets_cross_rows(rt: HostRuntime) -> Result<(), Fail> {
-    assert_image(&rt, &PACKET, BITS, &[[0xaa], [0xaa]])?;
+fn packets_cross_rows(rt: HostRuntime) {
+    assert_image(&rt, &PACKET, BITS, &[[0xaa], [0xaa]]);
     // FF, 128 times, for a row of four pixels in four inks: what is not needed is ignored.
     let shape = Shape {
         width: 4,
@@ -102,17 +122,12 @@ fn packets_cross_rows(rt: HostRuntime) -> Result<(), Fail> {
         ..BITS
     };
     let bytes = changed(PACKET, &[(34, 0x81), (35, 0xff)]);
-    assert_image(&rt, &bytes, shape, &[[0xff; 16]])?;
-    Ok(())
+    assert_image(&rt, &bytes, shape, &[[0xff; 16]]);
 }
 
 #[test]
-fn planes_are_joined_pixel_by_pixel(rt: HostRuntime) -> Result<(), Fail> {
-    let rows = [
-        [1, 11, 21, 31, 2, 12, 22, 32, 3, 13, 23, 33, 4, 14, 24, 34],
-        [5, 15, 25, 35, 6, 16, 26, 36, 7, 17, 27, 37, 8, 18, 28, 38],
-    ];
-    assert_image(&rt, &EIGHT_STRIPS, PLANES, &rows)?;
+fn planes_are_joined_pixel_by_pixel(rt: HostRuntime) {
+    assert_image(&rt, &EIGHT_STRIPS, PLANES, &PLANE_ROWS);
     // One plane with all samples, in one strip of more rows than the image has.
     let shape = Shape {
         width: 1,
@@ -120,73 +135,96 @@ fn planes_are_joined_pixel_by_pixel(rt: HostRuntime) -> Result<(), Fail> {
         rows_per_strip: 4_294_967_295,
         ..PLANES
     };
-    let bytes = changed(EIGHT_STRIPS, &[(50, 8)]);
-    assert_image(&rt, &bytes, shape, &[[1, 2, 3, 4], [5, 6, 7, 8]])?;
-    // Five rows of bits in three strips: the last strip has one.
-    let shape = Shape {
-        width: 16,
-        length: 5,
-        samples: 1,
-        bits: 1,
-        rows_per_strip: 2,
-        ..PLANES
-    };
-    let rows = [[1, 2], [3, 4], [5, 6], [7, 8], [11, 12]];
-    assert_image(&rt, &EIGHT_STRIPS, shape, &rows)?;
-    Ok(())
+    let bytes = changed(EIGHT_STRIPS, &LONGER);
+    assert_image(&rt, &bytes, shape, &[[1, 2, 3, 4], [5, 6, 7, 8]]);
+    assert_image(&rt, &EIGHT_STRIPS, THREE_STRIPS, &FIVE_ROWS);
 }
 
-// Asserts that all rows that are left are 64 pixels without ink.
-fn assert_blank(rt: &impl Abort, mut cursor: RowCursor<'_>)
+// Returns whether all rows that are left are 64 pixels without ink.
+fn is_blank(mut cursor: RowCursor<'_>) -> bool
     requires { row_length cursor.shape ≡ 256 }
 {
     for _y in 0..cursor.left() {
         let mut row = [0xee; 256];
         cursor.next_row(&mut row);
-        assert!(rt; row == [0; 256]);
+        if row != [0; 256] {
+            return false;
+        }
     }
-    assert_eq!(rt; cursor.left(), 0);
+    cursor.left() == 0
+}
+
+// Returns the front of `PACKET` up to its number of bytes, and these bytes after it.
+fn with_front<R: Abort + AllocGlobal>(rt: &R, behind: &[u8]) -> Vec<u8> {
+    let mut bytes = Vec::from_slice(rt.alloc(), &PACKET[..30]).expect(rt, "memory");
+    bytes.extend_from_slice(behind).expect(rt, "memory");
+    bytes
+}
+
+// Appends 256 packets of three zeros so many times.
+fn put_zeros(rt: &impl Abort, bytes: &mut Vec<u8>, times: u32) {
+    let mut packets = [0; 512];
+    for i in 0..256 {
+        packets[2 * i] = 0xfe;
+    }
+    for _time in 0..times {
+        bytes.extend_from_slice(&packets).expect(rt, "memory");
+    }
+}
+
+// One packed strip of 65,535 rows of 64 pixels in four inks.
+const HIGH: Shape = Shape {
+    width: 64,
+    length: 65_535,
+    samples: 4,
+    bits: 8,
+    rows_per_strip: 65_535,
+    ..BITS
+};
+
+// Asserts that this strip is blank.
+fn assert_blank(rt: &impl Abort, bytes: &[u8]) {
+    let dir = read_dir(bytes).expect(rt, "no directory");
+    let strips = Strips::check(bytes, &dir, HIGH).expect(rt, "no strips");
+    assert!(rt; is_blank(strips.rows()));
 }
 
 #[test]
-fn long_strip_is_expanded_once(rt: HostRuntime) -> Result<(), Fail> {
-    let shape = Shape {
-        width: 64,
-        length: 65_535,
-        samples: 4,
-        bits: 8,
-        rows_per_strip: 65_535,
-        ..BITS
-    };
+fn long_strip_is_expanded_once(rt: HostRuntime) {
     // 5,592,320 packets of three zeros. StripByteCounts is 11,184,640.
-    let mut bytes = Vec::from_slice(rt.alloc(), &PACKET[..30])?;
-    bytes.extend_from_slice(&[0x00, 0xaa, 0xaa, 0x00])?;
-    for _i in 0..5_592_320 {
-        bytes.extend_from_slice(&[0xfe, 0x00])?;
-    }
-    let dir = read_dir(bytes.as_slice())?;
-    let strips = Strips::check(bytes.as_slice(), &dir, shape)?;
-    assert_blank(&rt, strips.rows());
-    Ok(())
+    let mut bytes = with_front(&rt, &[0x00, 0xaa, 0xaa, 0x00]);
+    put_zeros(&rt, &mut bytes, 21_845);
+    assert_blank(&rt, &bytes);
+}
+
+// Asserts that the tests of a file with these changes find this fault first.
+fn assert_fault<const N: usize>(
+    rt: &impl Abort,
+    file: [u8; N],
+    changes: &[(usize, u8)],
+    shape: Shape,
+    fault: TagFault,
+)
+    requires { IsStriped shape }
+{
+    let bytes = changed(file, changes);
+    assert!(rt; check(&bytes, shape) == Err(fault), "{changes:?}");
 }
 
 #[test]
 fn first_fault_is_told(rt: HostRuntime) {
     use FaultKind::{FieldType, Missing, Short, StripPlace};
 
-    assert_eq!(&rt; check(&PACKET, BITS), Ok(()));
-    for (place, byte, tag, kind) in [
-        (34, 0x00, 273, Short),
-        (18, 0x23, 273, StripPlace),
-        (10, 0x00, 273, Missing),
-        (22, 0x00, 279, Missing),
-        (24, 0x05, 279, FieldType),
+    assert!(&rt; check(&PACKET, BITS) == Ok(()));
+    for (change, tag, kind) in &[
+        ((34, 0x00), 273, Short),
+        ((18, 0x23), 273, StripPlace),
+        ((10, 0x00), 273, Missing),
+        ((22, 0x00), 279, Missing),
+        ((24, 0x05), 279, FieldType),
     ] {
-        let bytes = changed(PACKET, &[(place, byte)]);
-        assert!(&rt;
-            check(&bytes, BITS) == Err(TagFault { tag, kind }),
-            "byte {place}"
-        );
+        let (tag, kind) = (*tag, *kind);
+        assert_fault(&rt, PACKET, &[*change], BITS, TagFault { tag, kind });
     }
 }
 
@@ -201,10 +239,12 @@ fn first_fault_of_eight_strips_is_told(rt: HostRuntime) {
         (&[(50, 4), (36, 1)], StripPlace),
     ];
     for (changes, kind) in cases {
-        let bytes = changed(EIGHT_STRIPS, changes);
-        assert!(&rt;
-            check(&bytes, PLANES) == Err(TagFault { tag: 273, kind }),
-            "{changes:?}"
+        assert_fault(
+            &rt,
+            EIGHT_STRIPS,
+            changes,
+            PLANES,
+            TagFault { tag: 273, kind },
         );
     }
 }
@@ -259,52 +299,60 @@ const LONG: Shape = Shape {
 };
 
 // Asserts that rows 64, 128 and 192 of this strip have these marks, and that rows behind them are read.
-#[tactic(auto, unfolding(tif_strips::specs::Marks::marks_per_strip, tif_strips::specs::Strips::planes, tif_strips::specs::Strips::strip_count, tif_strips::specs::Strips::strips_per_plane))]
 fn assert_marks<T: Abort + Threads + Sync>(
     rt: &T,
     alloc: Global,
     bytes: &[u8],
     expected: [u32; 3],
-) -> Result<(), TagFault> {
-    let dir = read_dir(bytes)?;
+) {
+    let dir = read_dir(bytes).expect(rt, "no directory");
     let mut marks = [0; 3];
-    let strips = Strips::check_wide(rt, 1, bytes, &dir, LONG, &mut marks)?;
+    let strips = Strips::check_wide(rt, 1, bytes, &dir, LONG, &mut marks).expect(rt, "no strips");
     assert!(rt; marks == expected);
-    let Ok(extents) = strips.extents(alloc) else {
-        rt.abort()
-    };
-    let mut cursor = Strips::of_tested(bytes, LONG, extents.as_slice(), &marks).rows();
+    let extents = strips.extents(alloc).expect(rt, "memory");
+    let tested = Strips::of_tested(bytes, LONG, extents.as_slice(), &marks);
+    assert!(rt; has_row_150(tested.rows()));
+}
+
+// Returns whether row 150 of this strip is the byte 150.
+fn has_row_150(mut cursor: RowCursor<'_>) -> bool
+    requires shape { cursor.shape ≡ LONG }
+    requires top { cursor.next ≡ 0 }
+{
     cursor.skip_rows(150);
     let mut row = [0xee];
     cursor.next_row(&mut row);
-    assert!(rt; row == [150]);
-    Ok(())
+    row == [150]
+}
+
+// Appends the rows of this strip from row `y` on, each as a literal packet.
+fn put_rows(rt: &impl Abort, bytes: &mut Vec<u8>, y: u8) {
+    for y in y..200 {
+        bytes.extend_from_slice(&[0x00, y]).expect(rt, "memory");
+    }
 }
 
 #[test]
-fn long_strip_is_marked(rt: HostRuntime) -> Result<(), Fail> {
+fn long_strip_is_marked(rt: HostRuntime) {
     // StripByteCounts is 400.
-    let mut bytes = Vec::from_slice(rt.alloc(), &PACKET[..30])?;
-    bytes.extend_from_slice(&[0x90, 0x01, 0x00, 0x00])?;
-    for y in 0..200 {
-        bytes.extend_from_slice(&[0x00, y])?;
+    let mut bytes = with_front(&rt, &[0x90, 0x01, 0x00, 0x00]);
+    put_rows(&rt, &mut bytes, 0);
+    assert_marks(&rt, rt.alloc(), &bytes, [128, 256, 384]);
+}
+
+// Appends the first 128 rows of this strip, which a literal packet's header precedes.
+fn put_literal(rt: &impl Abort, bytes: &mut Vec<u8>) {
+    for y in 0..128 {
+        bytes.push(y).expect(rt, "memory");
     }
-    assert_marks(&rt, rt.alloc(), bytes.as_slice(), [128, 256, 384])?;
-    Ok(())
 }
 
 // The first packet has 128 rows, so row 64 begins within it.
 #[test]
-fn row_within_a_packet_has_no_mark(rt: HostRuntime) -> Result<(), Fail> {
+fn row_within_a_packet_has_no_mark(rt: HostRuntime) {
     // StripByteCounts is 273.
-    let mut bytes = Vec::from_slice(rt.alloc(), &PACKET[..30])?;
-    bytes.extend_from_slice(&[0x11, 0x01, 0x00, 0x00, 0x7f])?;
-    for y in 0..128 {
-        bytes.extend_from_slice(&[y])?;
-    }
-    for y in 128..200 {
-        bytes.extend_from_slice(&[0x00, y])?;
-    }
-    assert_marks(&rt, rt.alloc(), bytes.as_slice(), [0, 129, 257])?;
-    Ok(())
+    let mut bytes = with_front(&rt, &[0x11, 0x01, 0x00, 0x00, 0x7f]);
+    put_literal(&rt, &mut bytes);
+    put_rows(&rt, &mut bytes, 128);
+    assert_marks(&rt, rt.alloc(), &bytes, [0, 129, 257]);
 }

@@ -1,5 +1,5 @@
 use Rattle.std.proofs.Common.{◌≡◌}
-use Rattle.image_tests.proofs.parts.assert_part.Given as goal
+use Rattle.image_tests.proofs.strips.has_rows.Given as goal
 
 abbrev pub invariant-loop-row : goal.invariant-loop-row
 invariant-loop-row g l = l.cursor.shape ≡ l.fn.cursor.shape

@@ -1,8 +1,8 @@
 use Rattle.std.proofs.Common.{◌≡◌, ◌+◌}
-use Rattle.image_tests.proofs.strips.assert_blank.Given as goal
+use Rattle.image_tests.proofs.strips.is_blank.Given as goal
 
 abbrev pub invariant-loop-y : goal.invariant-loop-y
-invariant-loop-y g l = record {
+invariant-loop-y l = record {
   shape : l.cursor.shape ≡ l.fn.cursor.shape;
   next : l.cursor.next ≡ l.fn.cursor.next + l._y;
 }
