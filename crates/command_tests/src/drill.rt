@@ -1,8 +1,9 @@
 // Tests of drills. The expected texts are those of check/drill.py, which works from the definitions alone.
-use crate::room::{CALM, Want, check, does};
+use crate::room::{check, does};
 use std::process::Abort;
 use std::thread::Threads;
 use std::time::Clock;
+use test_room::{CALM, Ended, Held};
 
 const SEVEN: &str = "site S0 finished plates 13 rows 832
 site S1 finished plates 13 rows 832
@@ -43,7 +44,7 @@ dots S2 10496538
 dots S3 10466308
 ";
 
-const WORDS: Want<'static> = Want {
+const WORDS: Ended<'static> = Ended {
     status: 2,
     out: &[],
     line: "plateroom: words\n",
@@ -74,12 +75,12 @@ fn prints<R: Abort + AllocGlobal + Threads + Clock + Sync>(
     words: &[&str],
     text: &str,
 ) -> bool {
-    let want = Want {
+    let want = Ended {
         status: 0,
         out: text.as_bytes(),
         line: "",
     };
-    does(rt, words, &[], CALM, &want)
+    does(rt, words, Held::Missing, CALM, &want)
 }
 
 #[test]
@@ -107,6 +108,6 @@ fn drills_the_last(rt: HostRuntime) {
 #[test]
 fn refuses_words_that_are_no_drill(rt: HostRuntime) {
     for (n, words) in NONE.iter().enumerate() {
-        check(&rt, n, does(&rt, words, &[], CALM, &WORDS));
+        check(&rt, n, does(&rt, words, Held::Missing, CALM, &WORDS));
     }
 }

@@ -1,50 +1,65 @@
 // What `one` reports of its arguments, of its file, and of a shelf and sinks that fail.
 ghost use Rattle.std.specs.Prelude.{None};
 
-use crate::files::{patch, plain};
-use crate::room::{CALM, ONE, Want, check, does, shelf, sink, tells};
-use pr_ports::{LoadFault, Shelf, Sink, SinkFault};
+use crate::files::plain;
+use crate::room::{ONE, check, does};
+use pr_ports::{Sink, SinkFault};
 use std::process::Abort;
 use std::thread::Threads;
 use std::time::Clock;
-use test_room::PLATE;
+use test_room::{CALM, Desk, Ended, Failing, Held, PLATE, are_empty, racks, tells};
 
 // Arguments that are not a command.
-const WORDS: Want<'static> = Want {
+const WORDS: Ended<'static> = Ended {
     status: 2,
     out: &[],
     line: "plateroom: words\n",
 };
 
 // The output or the error output failed.
-const FAILED: Want<'static> = Want {
+const FAILED: Ended<'static> = Ended {
     status: 7,
     out: &[],
     line: "",
 };
 
-const PRINTED: Want<'static> = Want {
+const PRINTED: Ended<'static> = Ended {
     status: 0,
     out: &PLATE,
     line: "",
 };
 
 // The shelf has no such file, or failed to load it.
-const NO_A: Want<'static> = Want {
+const NO_A: Ended<'static> = Ended {
     status: 5,
     out: &[],
     line: "plateroom: shelf: a.tif\n",
 };
 
-const NO_B: Want<'static> = Want {
+const NO_B: Ended<'static> = Ended {
     status: 5,
     out: &[],
     line: "plateroom: shelf: b.tif\n",
 };
 
-// The arguments, the failing calls of the shelf, the output and the error output, and the expected result.
-// The output takes a plate in one call.
-const CASES: [(&[&str], [Option<u64>; 3], Want<'static>); 11] = [
+// The shelf, the output or the error output fails at its first call.
+const NO_SHELF: Failing = Failing {
+    shelf: Some(0),
+    ..CALM
+};
+
+const NO_OUT: Failing = Failing {
+    out: Some(0),
+    ..CALM
+};
+
+const NO_NOTE: Failing = Failing {
+    note: Some(0),
+    ..CALM
+};
+
+// The arguments, the calls that fail, and the expected result. The output takes a plate in one call.
+const CASES: [(&[&str], Failing, Ended<'static>); 11] = [
     (&[], CALM, WORDS),
     (&["one"], CALM, WORDS),
     (&["one", ""], CALM, WORDS),
@@ -53,29 +68,25 @@ const CASES: [(&[&str], [Option<u64>; 3], Want<'static>); 11] = [
     (&["One", "a.tif"], CALM, WORDS),
     (&["one", "b.tif"], CALM, NO_B),
     (&["one", "a.tif"], CALM, PRINTED),
-    (&["one", "a.tif"], [Some(0), None, None], NO_A),
-    (&["one", "a.tif"], [None, Some(0), None], FAILED),
-    (&[], [None, None, Some(0)], FAILED),
+    (&["one", "a.tif"], NO_SHELF, NO_A),
+    (&["one", "a.tif"], NO_OUT, FAILED),
+    (&[], NO_NOTE, FAILED),
 ];
-
-fn check_cases<R: Abort + AllocGlobal + Threads + Clock + Sync>(rt: &R, file: &[u8]) {
-    for (n, case) in CASES.iter().enumerate() {
-        check(rt, n, does(rt, case.0, file, case.1, &case.2));
-    }
-}
 
 #[test]
 fn tells_what_is_wrong_and_what_failed(rt: HostRuntime) {
-    check_cases(&rt, &plain(&rt));
+    for (n, (words, failing, want)) in CASES.iter().enumerate() {
+        check(&rt, n, does(&rt, words, Held::Image, *failing, want));
+    }
 }
 
 // Asserts that `one` prints nothing of this file and reports this line.
 fn assert_refuses<R: Abort + AllocGlobal + Threads + Clock + Sync>(
     rt: &R,
-    file: &[u8],
+    file: Held<'_>,
     line: &str,
 ) {
-    let want = Want {
+    let want = Ended {
         status: 4,
         out: &[],
         line,
@@ -86,38 +97,23 @@ fn assert_refuses<R: Abort + AllocGlobal + Threads + Clock + Sync>(
 // The first 100 bytes contain only part of the directory.
 #[test]
 fn refuses_a_cut_directory(rt: HostRuntime) {
-    let mut file = plain(&rt);
-    file.truncate(100);
-    assert_refuses(&rt, &file, "plateroom: file a.tif: tag 0: directory\n");
+    let file = plain(&rt);
+    let front = file.as_slice().get(..100).expect(&rt, "a part");
+    let line = "plateroom: file a.tif: tag 0: directory\n";
+    assert_refuses(&rt, Held::Bytes(front), line);
 }
 
 // Compression 5 is LZW.
 #[test]
 fn refuses_lzw(rt: HostRuntime) {
-    let mut file = plain(&rt);
-    patch(&mut file, &[(54, &[5])]);
-    assert_refuses(&rt, &file, "plateroom: file a.tif: tag 259: compression\n");
+    let line = "plateroom: file a.tif: tag 259: compression\n";
+    assert_refuses(&rt, Held::Changed(54, 5), line);
 }
 
-// A shelf on which every file is too long.
-#[derive(Drop)]
-struct LongShelf {
-    longs: u64,
-}
-
-impl Shelf for LongShelf {
-    ghost held = { λ _. None };
-
-    ghost missed = { λ _. None };
-
-    ghost faults = { λ _. 0 };
-
-    ghost longs = { λ s. s.longs };
-
-    fn load(&mut self, _path: &str, limit: u64) -> Result<Vec<u8>, LoadFault> {
-        self.longs = self.longs.saturating_add(1);
-        Err(LoadFault::TooLong { limit })
-    }
+#[test]
+fn refuses_a_file_that_is_too_long(rt: HostRuntime) {
+    let line = "plateroom: file a.tif: tag 0: too long\n";
+    assert_refuses(&rt, Held::TooLong, line);
 }
 
 // A sink that is out of memory.
@@ -134,18 +130,31 @@ impl Sink for FullSink {
     }
 }
 
-#[test]
-fn refuses_a_file_that_is_too_long(rt: HostRuntime) {
-    let mut shelf = LongShelf { longs: 0 };
-    let mut out = sink(&rt, None);
-    let line = "plateroom: file a.tif: tag 0: too long\n";
-    assert!(rt; tells(&rt, &ONE, &mut shelf, &mut out, None, 4, line));
-    assert!(rt; out.bytes().is_empty());
+// Whether `one` reports that it is out of memory where the output is, and leaves the racks unchanged.
+fn tells_of_memory<R: Abort + AllocGlobal + Threads + Clock + Sync>(rt: &R) -> bool {
+    let want = Ended {
+        status: 6,
+        out: &[],
+        line: "plateroom: memory\n",
+    };
+    let files = [("a.tif", Held::Image)];
+    let mut desk = Desk::new(rt.alloc(), &files, &[], &[], None);
+    let mut racks = racks(rt.alloc(), [None; 2]).expect(rt, "memory");
+    let full = &mut FullSink;
+    let told = tells(
+        rt,
+        rt.alloc(),
+        &ONE,
+        &mut desk,
+        racks.as_mut_slice(),
+        full,
+        None,
+        &want,
+    );
+    told.expect(rt, "memory") && are_empty(&racks)
 }
 
 #[test]
 fn tells_of_an_output_without_memory(rt: HostRuntime) {
-    let mut shelf = shelf(&rt, &plain(&rt), None);
-    let line = "plateroom: memory\n";
-    assert!(rt; tells(&rt, &ONE, &mut shelf, &mut FullSink, None, 6, line));
+    assert!(rt; tells_of_memory(&rt));
 }

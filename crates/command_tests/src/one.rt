@@ -1,10 +1,10 @@
 // The plates that `one` prints, byte for byte.
 use crate::files::{append, blacks, four_by_one, image, patch, plain, plate_of};
-use crate::room::{CALM, ONE, Want, does};
+use crate::room::{ONE, does};
 use std::process::Abort;
 use std::thread::Threads;
 use std::time::Clock;
-use test_room::{FORM, PLATE};
+use test_room::{CALM, Ended, FORM, Held, PLATE};
 use tif_make::{Compression, ImageForm, Order, Planar};
 
 // Asserts that `one` prints this plate of this file, and reports nothing.
@@ -13,12 +13,12 @@ fn assert_prints<R: Abort + AllocGlobal + Threads + Clock + Sync>(
     file: &[u8],
     plate: &[u8],
 ) {
-    let want = Want {
+    let want = Ended {
         status: 0,
         out: plate,
         line: "",
     };
-    assert!(rt; does(rt, &ONE, file, CALM, &want));
+    assert!(rt; does(rt, &ONE, Held::Bytes(file), CALM, &want));
 }
 
 // The forms of a file: plain, packed, planar, and most significant byte first.
@@ -114,7 +114,7 @@ fn prints_the_widest_plate(rt: HostRuntime) {
 #[test]
 fn reads_entries_in_any_order(rt: HostRuntime) {
     let file = plain(&rt);
-    assert_eq!(rt; file.len(), 146);
+    assert!(rt; file.len() == 146);
     let (front, rest) = file.as_slice().split_at(10);
     let (entries, back) = rest.split_at(108);
     let mut turned = Vec::new(rt.alloc());

@@ -1,41 +1,33 @@
 // An edition that is made and, after a change, remade with `replate`, compared with the new edition made at
 // once.
-ghost use Rattle.std.specs.Prelude.{◌≤◌, length};
-ghost use Rattle.cmd_base.specs.Seen.{AreIdle};
-
-use crate::room::{CALM, Case, REPLATE, prints, racks};
-use pr_rack::{MemRack, Rack};
+use crate::room::{Case, REPLATE, racks_of};
+use pr_rack::MemRack;
 use std::process::Abort;
 use std::thread::Threads;
 use std::time::Clock;
-use test_room::{File, Held};
+use test_room::{CALM, File, Held};
 
-// Two sections for two sites. Page 3 is in four inks. BERGEN has another page 3, in black.
-const BEFORE: &str = r#"{"plan":1,"edition":"E1","dpi":1200,"page":[8,2],"screens":{"K":"bayer4"},
+// The front of both plans: two sections, of which page 3 is in four inks. The sites of zone Z have another
+// page 3, in black.
+const FRONT: &str = r#"{"plan":1,"edition":"E1","dpi":1200,"page":[8,2],"screens":{"K":"bayer4"},
 "pages":[{"name":"w","inks":"K","layers":[]},
 {"name":"p","inks":"K","layers":[{"kind":"contone","file":"a.tif","scale":2}]},
 {"name":"q","inks":"K","layers":[{"kind":"contone","file":"b.tif","scale":2}]},
 {"name":"c","inks":"CMYK","layers":[{"kind":"contone","file":"b.tif","scale":2}]}],
 "sections":[{"name":"A","pages":["q","w","c","w"]},{"name":"B","pages":["p","w"]}],
-"zones":[{"name":"Z","replace":[{"section":"A","page":3,"with":"p"}]}],
-"sites":[{"name":"OSLO"},{"name":"BERGEN","zone":"Z"}]}"#;
+"zones":[{"name":"Z","replace":[{"section":"A","page":3,"with":"p"}]}],"#;
+
+const BEFORE: &str = r#""sites":[{"name":"OSLO"},{"name":"BERGEN","zone":"Z"}]}"#;
 
 // BERGEN is removed, OSLO has BERGEN's page 3, and a site is added.
-const AFTER: &str = r#"{"plan":1,"edition":"E1","dpi":1200,"page":[8,2],"screens":{"K":"bayer4"},
-"pages":[{"name":"w","inks":"K","layers":[]},
-{"name":"p","inks":"K","layers":[{"kind":"contone","file":"a.tif","scale":2}]},
-{"name":"q","inks":"K","layers":[{"kind":"contone","file":"b.tif","scale":2}]},
-{"name":"c","inks":"CMYK","layers":[{"kind":"contone","file":"b.tif","scale":2}]}],
-"sections":[{"name":"A","pages":["q","w","c","w"]},{"name":"B","pages":["p","w"]}],
-"zones":[{"name":"Z","replace":[{"section":"A","page":3,"with":"p"}]}],
-"sites":[{"name":"NEW"},{"name":"OSLO","zone":"Z"}]}"#;
+const AFTER: &str = r#""sites":[{"name":"NEW"},{"name":"OSLO","zone":"Z"}]}"#;
 
 // The second image also changes.
 const FILES: [File<'static>; 6] = [
-    ("old.json", Held::Plan(BEFORE)),
+    ("old.json", Held::Parts(FRONT, BEFORE)),
     ("OLD/a.tif", Held::Image),
     ("OLD/b.tif", Held::Image),
-    ("plan.json", Held::Plan(AFTER)),
+    ("plan.json", Held::Parts(FRONT, AFTER)),
     ("FILES/a.tif", Held::Image),
     ("FILES/b.tif", Held::Changed(133, 254)),
 ];
@@ -114,17 +106,13 @@ fn are_right(plates: Plates<'_>, racks: &[MemRack]) -> bool {
         .all(|file| is_right(plates, file.0.as_str())))
 }
 
-// Whether a command with these racks prints this text and ends with status 0.
-fn is_done<R: Abort + AllocGlobal + Threads + Clock + Sync>(
+// Returns the racks after a command with these arguments, if it prints this text and ends with status 0.
+fn done<R: Abort + AllocGlobal + Threads + Clock + Sync>(
     rt: &R,
     words: &[&str],
-    racks: &mut [MemRack],
     text: &str,
     loads: u64,
-) -> bool
-    requires racks { 16 ≤ length racks.old }
-    requires idle { AreIdle ⟦<MemRack as Rack>⟧ racks.old }
-{
+) -> Option<Vec<MemRack>> {
     let case = Case {
         files: &FILES,
         failing: CALM,
@@ -134,7 +122,7 @@ fn is_done<R: Abort + AllocGlobal + Threads + Clock + Sync>(
         loads,
         kept: &[],
     };
-    prints(rt, words, racks, &case)
+    racks_of(rt, words, &case)
 }
 
 const RAN: &str = "site OSLO finished plates 6 rows 12
@@ -142,33 +130,20 @@ site BERGEN finished plates 3 rows 6
 total rows 14 sites 2
 ";
 
-// Runs the old job, then checks the rest.
-fn holds<R: Abort + AllocGlobal + Threads + Clock + Sync>(rt: &R) -> bool {
-    let mut old = racks(rt, [None; 2]);
-    let words = ["run", "old.json", "OLD", "OUT"];
-    is_done(rt, &words, old.as_mut_slice(), RAN, 3) && holds_of(rt, old.as_slice())
-}
-
-// Makes what changed, then checks the rest.
-fn holds_of<R: Abort + AllocGlobal + Threads + Clock + Sync>(rt: &R, old: &[MemRack]) -> bool {
-    let mut made = racks(rt, [None; 2]);
-    is_done(rt, &REPLATE, made.as_mut_slice(), MADE, 6) && holds_beside(rt, old, made.as_slice())
-}
-
 const RAN_ANEW: &str = "site NEW finished plates 6 rows 12
 site OSLO finished plates 3 rows 6
 total rows 14 sites 2
 ";
 
-// Runs the new job, then compares the plates.
-fn holds_beside<R: Abort + AllocGlobal + Threads + Clock + Sync>(
-    rt: &R,
-    old: &[MemRack],
-    made: &[MemRack],
-) -> bool {
-    let mut new = racks(rt, [None; 2]);
-    let words = ["run", "plan.json", "FILES", "OUT"];
-    is_done(rt, &words, new.as_mut_slice(), RAN_ANEW, 3) && all_lie(old, made, new.as_slice())
+// Runs the old job, makes what changed and runs the new job, then compares the plates.
+fn holds<R: Abort + AllocGlobal + Threads + Clock + Sync>(rt: &R) -> bool {
+    let old = done(rt, &["run", "old.json", "OLD", "OUT"], RAN, 3);
+    let made = done(rt, &REPLATE, MADE, 6);
+    let new = done(rt, &["run", "plan.json", "FILES", "OUT"], RAN_ANEW, 3);
+    match (&old, &made, &new) {
+        (Some(old), Some(made), Some(new)) => all_lie(old, made, new),
+        _ => false,
+    }
 }
 
 // Whether the plates present in the end are those of the new job, byte for byte, and no others.

@@ -1,28 +1,38 @@
 // What `replate` reports of its arguments, of two jobs, and of a shelf that fails.
 use crate::changes::EIGHTH;
-use crate::room::{CALM, Case, Failing, REPLATE, check, does};
+use crate::room::{Case, REPLATE, check, does};
 use std::process::Abort;
 use std::thread::Threads;
 use std::time::Clock;
-use test_room::{File, Held, TWO_PAGES};
+use test_room::{CALM, Failing, Held, TWO_PAGES};
 
-// Whether a command with these arguments and files, of which the load with this number fails, prints and
+// The plan, a.tif and b.tif of a job.
+type Job<'a> = [Held<'a>; 3];
+
+// Whether a command with these arguments and jobs, of whose files the load with this number fails, prints and
 // makes nothing, and ends with this status and this line.
 fn refuses<R: Abort + AllocGlobal + Threads + Clock + Sync>(
     rt: &R,
     words: &[&str],
-    files: &[File<'_>],
+    jobs: &[Job<'_>; 2],
     load: Option<u64>,
-    status: u8,
-    line: &str,
-    loads: u64,
+    answer: Answer<'_>,
 ) -> bool {
+    let ([old, new], (status, line, loads)) = (jobs, answer);
+    let files = [
+        ("old.json", old[0]),
+        ("OLD/a.tif", old[1]),
+        ("OLD/b.tif", old[2]),
+        ("plan.json", new[0]),
+        ("FILES/a.tif", new[1]),
+        ("FILES/b.tif", new[2]),
+    ];
     let failing = Failing {
         shelf: load,
         ..CALM
     };
     let case = Case {
-        files,
+        files: &files,
         failing,
         status,
         text: "",
@@ -33,13 +43,14 @@ fn refuses<R: Abort + AllocGlobal + Threads + Clock + Sync>(
     does(rt, words, &case)
 }
 
+// A status, a line, and a number of loads.
+type Answer<'a> = (u8, &'a str, u64);
+
+// The two pages.
+const PAGES: Job<'static> = [Held::Small(&TWO_PAGES), Held::Image, Held::Missing];
+
 // The two pages, and the same with another screen.
-const GOOD: [File<'static>; 4] = [
-    ("old.json", Held::Plan(TWO_PAGES)),
-    ("OLD/a.tif", Held::Image),
-    ("plan.json", Held::Plan(EIGHTH)),
-    ("FILES/a.tif", Held::Image),
-];
+const GOOD: [Job<'static>; 2] = [PAGES, [Held::Small(&EIGHTH), Held::Image, Held::Missing]];
 
 // Arguments that are not a command. `replate` takes no ring size.
 const WORDS: [&[&str]; 10] = [
@@ -74,7 +85,7 @@ const WORDS: [&[&str]; 10] = [
 #[test]
 fn refuses_other_words(rt: HostRuntime) {
     for (n, words) in WORDS.iter().enumerate() {
-        let holds = refuses(&rt, words, &GOOD, None, 2, "plateroom: words\n", 0);
+        let holds = refuses(&rt, words, &GOOD, None, (2, "plateroom: words\n", 0));
         check(&rt, n, holds);
     }
 }
@@ -101,163 +112,104 @@ const AS_LINE: &str = r#"{"plan":1,"edition":"E1","dpi":1200,"page":[8,2],
 // Compression 5 is LZW.
 const LZW: Held<'static> = Held::Changed(54, 5);
 
-// Files, the load that fails, the status, the line, and the number of loads.
-type Fault<'a> = (&'a [File<'a>], Option<u64>, u8, &'a str, u64);
+// No file.
+const NONE: Held<'static> = Held::Missing;
 
 // Any fault of the old job is reported before the new plan is loaded.
-const OLD: [Fault<'static>; 6] = [
+const OLD: [(Job<'static>, Job<'static>, Answer<'static>); 6] = [
     (
-        &[("plan.json", Held::Plan(NO_DPI))],
-        None,
-        5,
-        "plateroom: shelf: old.json\n",
-        1,
+        [NONE, NONE, NONE],
+        [Held::Plan(NO_DPI), NONE, NONE],
+        (5, "plateroom: shelf: old.json\n", 1),
     ),
     (
-        &[
-            ("old.json", Held::Plan(NO_DPI)),
-            ("plan.json", Held::Plan("{")),
-        ],
-        None,
-        3,
-        "plateroom: old plan /dpi: missing\n",
-        1,
+        [Held::Plan(NO_DPI), NONE, NONE],
+        [Held::Plan("{"), NONE, NONE],
+        (3, "plateroom: old plan /dpi: missing\n", 1),
     ),
     (
-        &[("old.json", Held::TooLong), ("plan.json", Held::TooLong)],
-        None,
-        3,
-        "plateroom: old plan: too long\n",
-        1,
+        [Held::TooLong, NONE, NONE],
+        [Held::TooLong, NONE, NONE],
+        (3, "plateroom: old plan: too long\n", 1),
     ),
     (
-        &[
-            ("old.json", Held::Plan(TWO_PAGES)),
-            ("OLD/a.tif", Held::TooLong),
-            ("plan.json", Held::Plan(NO_DPI)),
-        ],
-        None,
-        4,
-        "plateroom: old file a.tif: tag 0: too long\n",
-        2,
+        [Held::Small(&TWO_PAGES), Held::TooLong, NONE],
+        [Held::Plan(NO_DPI), NONE, NONE],
+        (4, "plateroom: old file a.tif: tag 0: too long\n", 2),
     ),
     (
-        &[
-            ("old.json", Held::Plan(TWO_FILES)),
-            ("OLD/a.tif", Held::Image),
-            ("OLD/b.tif", LZW),
-            ("plan.json", Held::Plan(TWO_FILES)),
-            ("FILES/a.tif", Held::TooLong),
-        ],
-        None,
-        4,
-        "plateroom: old file b.tif: tag 259: compression\n",
-        3,
+        [Held::Plan(TWO_FILES), Held::Image, LZW],
+        [Held::Plan(TWO_FILES), Held::TooLong, NONE],
+        (4, "plateroom: old file b.tif: tag 259: compression\n", 3),
     ),
     (
-        &[
-            ("old.json", Held::Plan(AS_LINE)),
-            ("OLD/a.tif", Held::Image),
-        ],
-        None,
-        4,
-        "plateroom: old file a.tif: tag 277: samples\n",
-        2,
+        [Held::Plan(AS_LINE), Held::Image, NONE],
+        [NONE, NONE, NONE],
+        (4, "plateroom: old file a.tif: tag 277: samples\n", 2),
     ),
 ];
-
-const NEW: [Fault<'static>; 5] = [
-    (
-        &[
-            ("old.json", Held::Plan(TWO_PAGES)),
-            ("OLD/a.tif", Held::Image),
-            ("plan.json", Held::Plan(NO_DPI)),
-        ],
-        None,
-        3,
-        "plateroom: plan /dpi: missing\n",
-        3,
-    ),
-    (
-        &[
-            ("old.json", Held::Plan(TWO_PAGES)),
-            ("OLD/a.tif", Held::Image),
-            ("plan.json", Held::TooLong),
-        ],
-        None,
-        3,
-        "plateroom: plan: too long\n",
-        3,
-    ),
-    (
-        &[
-            ("old.json", Held::Plan(TWO_PAGES)),
-            ("OLD/a.tif", Held::Image),
-            ("plan.json", Held::Plan(TWO_PAGES)),
-            ("FILES/a.tif", Held::TooLong),
-        ],
-        None,
-        4,
-        "plateroom: file a.tif: tag 0: too long\n",
-        4,
-    ),
-    (
-        &[
-            ("old.json", Held::Plan(TWO_PAGES)),
-            ("OLD/a.tif", Held::Image),
-            ("plan.json", Held::Plan(TWO_FILES)),
-            ("FILES/a.tif", Held::Image),
-            ("FILES/b.tif", LZW),
-        ],
-        None,
-        4,
-        "plateroom: file b.tif: tag 259: compression\n",
-        5,
-    ),
-    (
-        &[
-            ("old.json", Held::Plan(TWO_PAGES)),
-            ("OLD/a.tif", Held::Image),
-            ("plan.json", Held::Plan(AS_LINE)),
-            ("FILES/a.tif", Held::Image),
-        ],
-        None,
-        4,
-        "plateroom: file a.tif: tag 277: samples\n",
-        4,
-    ),
-];
-
-// Each load fails in turn. The line for a failed load names the path alone.
-const LOADS: [Fault<'static>; 4] = [
-    (&GOOD, Some(0), 5, "plateroom: shelf: old.json\n", 1),
-    (&GOOD, Some(1), 5, "plateroom: shelf: OLD/a.tif\n", 2),
-    (&GOOD, Some(2), 5, "plateroom: shelf: plan.json\n", 3),
-    (&GOOD, Some(3), 5, "plateroom: shelf: FILES/a.tif\n", 4),
-];
-
-fn tells<R: Abort + AllocGlobal + Threads + Clock + Sync>(rt: &R, fault: &Fault<'_>) -> bool {
-    let (files, load, status, line, loads) = *fault;
-    refuses(rt, &REPLATE, files, load, status, line, loads)
-}
-
-fn check_all<R: Abort + AllocGlobal + Threads + Clock + Sync>(rt: &R, faults: &[Fault<'_>]) {
-    for (n, fault) in faults.iter().enumerate() {
-        check(rt, n, tells(rt, fault));
-    }
-}
 
 #[test]
 fn tells_what_is_wrong_with_the_old_job(rt: HostRuntime) {
-    check_all(&rt, &OLD);
+    for (n, (old, new, answer)) in OLD.iter().enumerate() {
+        check(&rt, n, refuses(&rt, &REPLATE, &[*old, *new], None, *answer));
+    }
 }
+
+// The old job is that of the two pages.
+const NEW: [(Job<'static>, Answer<'static>); 5] = [
+    (
+        [Held::Plan(NO_DPI), NONE, NONE],
+        (3, "plateroom: plan /dpi: missing\n", 3),
+    ),
+    (
+        [Held::TooLong, NONE, NONE],
+        (3, "plateroom: plan: too long\n", 3),
+    ),
+    (
+        [Held::Small(&TWO_PAGES), Held::TooLong, NONE],
+        (4, "plateroom: file a.tif: tag 0: too long\n", 4),
+    ),
+    (
+        [Held::Plan(TWO_FILES), Held::Image, LZW],
+        (4, "plateroom: file b.tif: tag 259: compression\n", 5),
+    ),
+    (
+        [Held::Plan(AS_LINE), Held::Image, NONE],
+        (4, "plateroom: file a.tif: tag 277: samples\n", 4),
+    ),
+];
 
 #[test]
 fn tells_what_is_wrong_with_the_new_job(rt: HostRuntime) {
-    check_all(&rt, &NEW);
+    for (n, (new, answer)) in NEW.iter().enumerate() {
+        check(
+            &rt,
+            n,
+            refuses(&rt, &REPLATE, &[PAGES, *new], None, *answer),
+        );
+    }
 }
+
+// Each load fails in turn. The line for a failed load names the path alone.
+const LOADS: [&str; 4] = [
+    "plateroom: shelf: old.json\n",
+    "plateroom: shelf: OLD/a.tif\n",
+    "plateroom: shelf: plan.json\n",
+    "plateroom: shelf: FILES/a.tif\n",
+];
 
 #[test]
 fn tells_which_load_failed(rt: HostRuntime) {
-    check_all(&rt, &LOADS);
+    for (n, line) in LOADS.iter().enumerate() {
+        let load = n as u64;
+        let holds = refuses(
+            &rt,
+            &REPLATE,
+            &GOOD,
+            Some(load),
+            (5, line, load.saturating_add(1)),
+        );
+        check(&rt, n, holds);
+    }
 }

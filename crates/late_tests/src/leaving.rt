@@ -1,43 +1,29 @@
 // Sites that drop out because their racks fail, and an output that fails.
 use crate::changes::{EIGHTH, SECOND};
 use crate::files::Kept;
-use crate::room::{CALM, Case, Failing, REPLATE, check, does};
+use crate::room::{Case, REPLATE, check, does};
 use std::process::Abort;
 use std::thread::Threads;
 use std::time::Clock;
-use test_room::{File, Held, PAIR, Plate, TWO_PAGES};
+use test_room::{CALM, FOUR_PAGES, Failing, File, Held, Plate, Sides, SmallPlan, TWO_PAGES};
 
 // Six pages for two sites. The image is pages 1 and 3, which are in the first and the third pair.
-const SIX_PAGES: &str =
-    r#"{"plan":1,"edition":"E1","dpi":1200,"page":[8,2],"screens":{"K":"bayer4"},
-"pages":[{"name":"w","inks":"K","layers":[]},
-{"name":"p","inks":"K","layers":[{"kind":"contone","file":"a.tif","scale":2}]}],
-"sections":[{"name":"A","pages":["p","w","p","w","w","w"]}],
-"sites":[{"name":"OSLO"},{"name":"BERGEN"}]}"#;
+const SIX_PAGES: SmallPlan<'static> = SmallPlan {
+    pages: r#""p","w","p","w","w","w""#,
+    ..FOUR_PAGES
+};
+
+// The old plan, the new one, and the new image. The old image is the unchanged image.
+type Change<'a> = (&'a SmallPlan<'a>, &'a SmallPlan<'a>, Held<'a>);
 
 // The six pages, and the same with another byte in the image.
-const SIX: [File<'static>; 4] = [
-    ("old.json", Held::Plan(SIX_PAGES)),
-    ("OLD/a.tif", Held::Image),
-    ("plan.json", Held::Plan(SIX_PAGES)),
-    ("FILES/a.tif", Held::Changed(133, 254)),
-];
+const SIX: Change<'static> = (&SIX_PAGES, &SIX_PAGES, Held::Changed(133, 254));
 
 // The two pages, and the same with another screen.
-const SCREENED: [File<'static>; 4] = [
-    ("old.json", Held::Plan(TWO_PAGES)),
-    ("OLD/a.tif", Held::Image),
-    ("plan.json", Held::Plan(EIGHTH)),
-    ("FILES/a.tif", Held::Image),
-];
+const SCREENED: Change<'static> = (&TWO_PAGES, &EIGHTH, Held::Image);
 
 // The two pages, and the same in another edition.
-const RENAMED: [File<'static>; 4] = [
-    ("old.json", Held::Plan(TWO_PAGES)),
-    ("OLD/a.tif", Held::Image),
-    ("plan.json", Held::Plan(SECOND)),
-    ("FILES/a.tif", Held::Image),
-];
+const RENAMED: Change<'static> = (&TWO_PAGES, &SECOND, Held::Image);
 
 const NONE_MADE: &str = "site OSLO made 2 kept 1
 site BERGEN left made 0 file OUT/BERGEN/E1-A-001-K.tif
@@ -54,13 +40,13 @@ const WHOLE: Kept<'static> = (
     &[
         Plate {
             path: "OUT/OSLO/E1-A-001-K.tif",
+            sides: Sides::SixteenByTwo,
             rows: &[1, 0, 0xEB, 1, 0, 0xD3],
-            changes: &PAIR,
         },
         Plate {
             path: "OUT/OSLO/E1-A-003-K.tif",
+            sides: Sides::SixteenByTwo,
             rows: &[1, 0, 0xEB, 1, 0, 0xD3],
-            changes: &PAIR,
         },
     ],
     &[0, 1, 4, 5],
@@ -69,14 +55,14 @@ const WHOLE: Kept<'static> = (
 // The plates of BERGEN.
 const FIRST: Plate<'static> = Plate {
     path: "OUT/BERGEN/E1-A-001-K.tif",
+    sides: Sides::SixteenByTwo,
     rows: &[1, 0, 0xEB, 1, 0, 0xD3],
-    changes: &PAIR,
 };
 
 const THIRD: Plate<'static> = Plate {
     path: "OUT/BERGEN/E1-A-003-K.tif",
+    sides: Sides::SixteenByTwo,
     rows: &[1, 0, 0xEB, 1, 0, 0xD3],
-    changes: &PAIR,
 };
 
 // The call of the second rack that fails, the expected output, and the expected contents of both racks. A
@@ -87,6 +73,17 @@ const CALLS: [(u64, &str, [Kept<'static>; 2]); 4] = [
     (6, ONE_MADE, [WHOLE, (&[FIRST], &[0, 1, 4])]),
     (7, ONE_MADE, [WHOLE, (&[FIRST], &[0, 1, 4, 5])]),
 ];
+
+// Returns the files of both jobs of a change.
+fn files_of<'a>(change: &Change<'a>) -> [File<'a>; 4] {
+    let (old, plan, image) = *change;
+    [
+        ("old.json", Held::Small(old)),
+        ("OLD/a.tif", Held::Image),
+        ("plan.json", Held::Small(plan)),
+        ("FILES/a.tif", image),
+    ]
+}
 
 // Whether a replate of these files with these failing calls ends with this status and this text, and the
 // racks have these contents.
@@ -121,7 +118,7 @@ fn leaves<R: Abort + AllocGlobal + Threads + Clock + Sync>(
         racks: [None, Some(call)],
         ..CALM
     };
-    ends(rt, &SIX, failing, 1, text, kept)
+    ends(rt, &files_of(&SIX), failing, 1, text, kept)
 }
 
 #[test]
@@ -131,9 +128,9 @@ fn a_site_leaves(rt: HostRuntime) {
     }
 }
 
-// Files for one site, the call of its rack that fails, the expected output, and the expected contents of the
-// rack.
-type Alone<'a> = (&'a [File<'a>], u64, &'a str, &'a [Kept<'a>]);
+// A change at one site, the call of its rack that fails, the expected output, and the expected contents of
+// the rack.
+type Alone<'a> = (&'a Change<'a>, u64, &'a str, &'a [Kept<'a>]);
 
 const ALONE: [Alone<'static>; 2] = [
     (
@@ -152,12 +149,12 @@ const ALONE: [Alone<'static>; 2] = [
 ];
 
 fn leaves_alone<R: Abort + AllocGlobal + Threads + Clock + Sync>(rt: &R, row: &Alone<'_>) -> bool {
-    let (files, call, text, kept) = *row;
+    let (change, call, text, kept) = *row;
     let failing = Failing {
         racks: [Some(call), None],
         ..CALM
     };
-    ends(rt, files, failing, 1, text, kept)
+    ends(rt, &files_of(change), failing, 1, text, kept)
 }
 
 #[test]
@@ -185,7 +182,7 @@ fn stands<R: Abort + AllocGlobal + Threads + Clock + Sync>(
         out: Some(0),
         ..CALM
     };
-    ends(rt, &SIX, failing, 7, "", kept)
+    ends(rt, &files_of(&SIX), failing, 7, "", kept)
 }
 
 #[test]

@@ -1,9 +1,11 @@
 // Small editions: their plates byte for byte, and the rows that the racks of their sites took.
-use crate::files::{four_by_one, image, pixel};
-use crate::room::{CALM, RUN, Want, runs};
+use crate::files::{four_by_one, pixel, spot_line};
+use crate::room::{RUN, Want, runs};
 use ring_lanes::Source;
-use test_room::{FORM, PAIR, Plate, TWO_PAGES, ZONED};
-use tif_make::{ImageForm, Kind};
+use std::process::Abort;
+use std::thread::Threads;
+use std::time::Clock;
+use test_room::{CALM, Held, Plate, Sides, TWO_PAGES, ZONED};
 
 /// The report of a run of the two pages.
 pub const ONE_SITE: &str = "site OSLO finished plates 1 rows 2\ntotal rows 2 sites 1\n";
@@ -24,52 +26,45 @@ const DIFFUSED: &str =
 /// The plate of the two pages.
 pub const TWO_PAGES_PLATE: Plate<'static> = Plate {
     path: "OUT/OSLO/E1-A-001-K.tif",
+    sides: Sides::SixteenByTwo,
     rows: &[1, 0xAB, 0, 1, 0x13, 0],
-    changes: &PAIR,
 };
 
-const AT_64: Want<'static> = Want {
-    status: 0,
-    report: ONE_SITE,
-    line: "",
-    plates: &[&[TWO_PAGES_PLATE]],
-    taken: &[(
-        Source::Ring {
-            reader: 0,
-            readers: 1,
-            places: 64,
-        },
-        &[0, 1],
-    )],
-};
+/// Whether a run of the two pages with these arguments makes their plate and prints this report. The site
+/// takes its rows as the first of `readers` readers of a ring of this many places.
+pub fn makes_two_pages<R: Abort + AllocGlobal + Threads + Clock + Sync>(
+    rt: &R,
+    words: &[&str],
+    report: &str,
+    readers: u32,
+    places: u32,
+) -> bool {
+    let source = Source::Ring {
+        reader: 0,
+        readers,
+        places,
+    };
+    let want = Want {
+        status: 0,
+        report,
+        line: "",
+        plates: &[&[TWO_PAGES_PLATE]],
+        taken: &[(source, &[0, 1])],
+    };
+    let plan = Held::Small(&TWO_PAGES);
+    runs(rt, words, plan, [&four_by_one(rt), &[]], CALM, &want)
+}
 
 #[test]
 fn runs_an_edition(rt: HostRuntime) {
-    let file = four_by_one(&rt);
-    assert!(rt; runs(&rt, &RUN, TWO_PAGES, [&file, &[]], CALM, &AT_64));
+    assert!(rt; makes_two_pages(&rt, &RUN, ONE_SITE, 1, 64));
 }
-
-const AT_1: Want<'static> = Want {
-    status: 0,
-    report: ONE_SITE,
-    line: "",
-    plates: &[&[TWO_PAGES_PLATE]],
-    taken: &[(
-        Source::Ring {
-            reader: 0,
-            readers: 1,
-            places: 1,
-        },
-        &[0, 1],
-    )],
-};
 
 // A ring of one place, and a patience of one look per turn.
 #[test]
 fn runs_at_one_place(rt: HostRuntime) {
     let words = ["run", "plan.json", "FILES", "OUT", "1", "1"];
-    let file = four_by_one(&rt);
-    assert!(rt; runs(&rt, &words, TWO_PAGES, [&file, &[]], CALM, &AT_1));
+    assert!(rt; makes_two_pages(&rt, &words, ONE_SITE, 1, 1));
 }
 
 const EMPTY: [u8; 6] = [1, 0, 0, 1, 0, 0];
@@ -85,25 +80,25 @@ total rows 6 sites 2
         &[
             Plate {
                 path: "OUT/OSLO/E1-A-001-K.tif",
+                sides: Sides::SixteenByTwo,
                 rows: &EMPTY,
-                changes: &PAIR,
             },
             Plate {
                 path: "OUT/OSLO/E1-A-002-K.tif",
+                sides: Sides::SixteenByTwo,
                 rows: &EMPTY,
-                changes: &PAIR,
             },
         ],
         &[
             Plate {
                 path: "OUT/BERGEN/E1-A-001-K.tif",
+                sides: Sides::SixteenByTwo,
                 rows: &EMPTY,
-                changes: &PAIR,
             },
             Plate {
                 path: "OUT/BERGEN/E1-A-002-K.tif",
+                sides: Sides::SixteenByTwo,
                 rows: &[1, 0, 0xAB, 1, 0, 0x13],
-                changes: &PAIR,
             },
         ],
     ],
@@ -131,7 +126,7 @@ total rows 6 sites 2
 #[test]
 fn runs_zones(rt: HostRuntime) {
     let file = four_by_one(&rt);
-    assert!(rt; runs(&rt, &RUN, ZONED, [&file, &[]], CALM, &ZONES));
+    assert!(rt; runs(&rt, &RUN, Held::Small(&ZONED), [&file, &[]], CALM, &ZONES));
 }
 
 const SPOT_PLATES: Want<'static> = Want {
@@ -141,13 +136,13 @@ const SPOT_PLATES: Want<'static> = Want {
     plates: &[&[
         Plate {
             path: "OUT/OSLO/E1-A-001-K.tif",
+            sides: Sides::SixteenByTwo,
             rows: &EMPTY,
-            changes: &PAIR,
         },
         Plate {
             path: "OUT/OSLO/E1-A-001-S.tif",
+            sides: Sides::SixteenByTwo,
             rows: &[1, 0xF0, 0, 1, 0x0F, 0],
-            changes: &PAIR,
         },
     ]],
     taken: &[],
@@ -155,15 +150,17 @@ const SPOT_PLATES: Want<'static> = Want {
 
 #[test]
 fn runs_a_spot(rt: HostRuntime) {
-    let form = ImageForm {
-        kind: Kind::Line,
-        width: 8,
-        length: 2,
-        rows_per_strip: 2,
-        ..FORM
-    };
-    let line = image(&rt, &form, &[0xF0, 0x0F]);
-    assert!(rt; runs(&rt, &RUN, SPOT, [&line, &[]], CALM, &SPOT_PLATES));
+    let line = spot_line(&rt);
+    assert!(rt;
+        runs(
+            &rt,
+            &RUN,
+            Held::Plan(SPOT),
+            [&line, &[]],
+            CALM,
+            &SPOT_PLATES
+        )
+    );
 }
 
 const DIFFUSED_PLATE: Want<'static> = Want {
@@ -172,15 +169,8 @@ const DIFFUSED_PLATE: Want<'static> = Want {
     line: "",
     plates: &[&[Plate {
         path: "OUT/OSLO/E1-A-001-K.tif",
+        sides: Sides::EightByTwo,
         rows: &[0, 0xA0, 0, 0x50],
-        changes: &[
-            (4, 12),
-            (22, 8),
-            (34, 2),
-            (118, 4),
-            (130, 0xA2),
-            (142, 0xAA),
-        ],
     }]],
     taken: &[],
 };
@@ -188,5 +178,14 @@ const DIFFUSED_PLATE: Want<'static> = Want {
 #[test]
 fn runs_a_diffused_screen(rt: HostRuntime) {
     let file = pixel(&rt, [0, 0, 0, 128]);
-    assert!(rt; runs(&rt, &RUN, DIFFUSED, [&file, &[]], CALM, &DIFFUSED_PLATE));
+    assert!(rt;
+        runs(
+            &rt,
+            &RUN,
+            Held::Plan(DIFFUSED),
+            [&file, &[]],
+            CALM,
+            &DIFFUSED_PLATE
+        )
+    );
 }

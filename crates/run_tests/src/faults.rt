@@ -1,11 +1,14 @@
 // What a run reports of its arguments, its plan and its files, and of a shelf and sinks that fail.
+ghost use Rattle.tif_make.specs.Form.{IsForm};
+ghost use Rattle.tif_make.specs.Made.{HasRows};
+
 use crate::editions::{ONE_SITE, TWO_PAGES_PLATE};
 use crate::files::{four_by_one, image, patch};
-use crate::room::{CALM, Failing, RUN, Want, check, runs};
+use crate::room::{RUN, Want, check, runs};
 use std::process::Abort;
 use std::thread::Threads;
 use std::time::Clock;
-use test_room::{FORM, TWO_PAGES};
+use test_room::{CALM, FORM, Failing, Held, TWO_PAGES};
 use tif_make::{ImageForm, Kind};
 
 // Arguments of a run of one plate, with the least and the greatest ring size and patience.
@@ -33,7 +36,8 @@ fn check_words<R: Abort + AllocGlobal + Threads + Clock + Sync>(
     want: &Want<'_>,
 ) {
     for (n, words) in lines.iter().enumerate() {
-        check(rt, n, runs(rt, words, TWO_PAGES, [file, &[]], CALM, want));
+        let plan = Held::Small(&TWO_PAGES);
+        check(rt, n, runs(rt, words, plan, [file, &[]], CALM, want));
     }
 }
 
@@ -65,7 +69,7 @@ fn refuses_ring_and_patience(rt: HostRuntime) {
 // plates.
 fn ends<R: Abort + AllocGlobal + Threads + Clock + Sync>(
     rt: &R,
-    plan: &str,
+    plan: Held<'_>,
     files: [&[u8]; 2],
     failing: Failing,
     status: u8,
@@ -99,7 +103,8 @@ fn refuses_second<R: Abort + AllocGlobal + Threads + Clock + Sync>(
         note: Some(0),
         ..CALM
     };
-    ends(rt, LATER, [first, lzw], CALM, 4, line) && ends(rt, LATER, [first, lzw], failing, 7, "")
+    let (plan, files) = (Held::Plan(LATER), [first, lzw]);
+    ends(rt, plan, files, CALM, 4, line) && ends(rt, plan, files, failing, 7, "")
 }
 
 #[test]
@@ -121,7 +126,8 @@ fn refuses_layer<R: Abort + AllocGlobal + Threads + Clock + Sync>(
 "layers":[{"kind":"contone","file":"a.tif","#;
     let back = r#"}]}],"sections":[{"name":"A","pages":["w","w"]}],"sites":[{"name":"OSLO"}]}"#;
     let plan = format!(in rt.alloc(); "{front}{key}{back}").expect(rt, "memory");
-    ends(rt, plan.as_str(), [&four_by_one(rt), mask], CALM, 4, line)
+    let plan = Held::Plan(plan.as_str());
+    ends(rt, plan, [&four_by_one(rt), mask], CALM, 4, line)
 }
 
 #[test]
@@ -132,28 +138,37 @@ fn refuses_a_crop_that_ends_outside_its_image(rt: HostRuntime) {
     assert!(rt; refuses_layer(&rt, r#""crop":[0,0,1,2]"#, &[], down));
 }
 
+// Whether a mask of this form with these rows is refused with this line.
+fn refuses_mask<R: Abort + AllocGlobal + Threads + Clock + Sync>(
+    rt: &R,
+    form: &ImageForm,
+    rows: &[u8],
+    line: &str,
+) -> bool
+    requires form { IsForm form.now }
+    requires rows { HasRows form.now rows.now }
+{
+    refuses_layer(rt, r#""mask":"b.tif""#, &image(rt, form, rows), line)
+}
+
+// The mask of the four pixels.
+const MASK: ImageForm = ImageForm {
+    kind: Kind::Mask,
+    ..FORM
+};
+
 #[test]
 fn refuses_a_mask_of_another_width_than_its_image(rt: HostRuntime) {
-    let narrow = ImageForm {
-        kind: Kind::Mask,
-        width: 3,
-        ..FORM
-    };
+    let narrow = ImageForm { width: 3, ..MASK };
     let line = "plateroom: file b.tif: tag 256: mask size\n";
-    let mask = image(&rt, &narrow, &[0xE0]);
-    assert!(rt; refuses_layer(&rt, r#""mask":"b.tif""#, &mask, line));
+    assert!(rt; refuses_mask(&rt, &narrow, &[0xE0], line));
 }
 
 #[test]
 fn refuses_a_mask_of_another_length_than_its_image(rt: HostRuntime) {
-    let long = ImageForm {
-        kind: Kind::Mask,
-        length: 2,
-        ..FORM
-    };
+    let long = ImageForm { length: 2, ..MASK };
     let line = "plateroom: file b.tif: tag 257: mask size\n";
-    let mask = image(&rt, &long, &[0xF0, 0xF0]);
-    assert!(rt; refuses_layer(&rt, r#""mask":"b.tif""#, &mask, line));
+    assert!(rt; refuses_mask(&rt, &long, &[0xF0, 0xF0], line));
 }
 
 const HEAD: &str = r#"{"plan":1,"edition":"E1","dpi":1200,"page":[8,2],"#;
@@ -203,7 +218,7 @@ fn refuses_keys<R: Abort + AllocGlobal + Threads + Clock + Sync>(
 ) -> bool {
     let pages = r#""pages":[{"name":"w","inks":"K","layers":[]}],"#;
     let plan = format!(in rt.alloc(); "{head}{pages}{sections}{sites}").expect(rt, "memory");
-    ends(rt, plan.as_str(), [&[], &[]], CALM, 3, line)
+    ends(rt, Held::Plan(plan.as_str()), [&[], &[]], CALM, 3, line)
 }
 
 #[test]
@@ -216,9 +231,9 @@ fn refuses_a_plan(rt: HostRuntime) {
 #[test]
 fn refuses_what_is_no_plan(rt: HostRuntime) {
     let line = "plateroom: plan: not JSON\n";
-    assert!(rt; ends(&rt, "{", [&[], &[]], CALM, 3, line));
+    assert!(rt; ends(&rt, Held::Plan("{"), [&[], &[]], CALM, 3, line));
     let line = "plateroom: plan : kind\n";
-    assert!(rt; ends(&rt, "[]", [&[], &[]], CALM, 3, line));
+    assert!(rt; ends(&rt, Held::Plan("[]"), [&[], &[]], CALM, 3, line));
 }
 
 // The load at which the shelf fails, and the line.
@@ -233,7 +248,8 @@ fn misses<R: Abort + AllocGlobal + Threads + Clock + Sync>(rt: &R, load: u64, li
         shelf: Some(load),
         ..CALM
     };
-    ends(rt, TWO_PAGES, [&four_by_one(rt), &[]], failing, 5, line)
+    let plan = Held::Small(&TWO_PAGES);
+    ends(rt, plan, [&four_by_one(rt), &[]], failing, 5, line)
 }
 
 #[test]
@@ -251,13 +267,29 @@ const UNREPORTED: Want<'static> = Want {
     taken: &[],
 };
 
-// The output takes the whole report in one call, once the plates are complete.
-#[test]
-fn ends_where_the_output_fails(rt: HostRuntime) {
+/// Whether a run of the two pages with these arguments, whose output fails, reports nothing and leaves their
+/// plate.
+pub fn ends_unreported<R: Abort + AllocGlobal + Threads + Clock + Sync>(
+    rt: &R,
+    words: &[&str],
+) -> bool {
     let failing = Failing {
         out: Some(0),
         ..CALM
     };
-    let file = four_by_one(&rt);
-    assert!(rt; runs(&rt, &RUN, TWO_PAGES, [&file, &[]], failing, &UNREPORTED));
+    let plan = Held::Small(&TWO_PAGES);
+    runs(
+        rt,
+        words,
+        plan,
+        [&four_by_one(rt), &[]],
+        failing,
+        &UNREPORTED,
+    )
+}
+
+// The output takes the whole report in one call, once the plates are complete.
+#[test]
+fn ends_where_the_output_fails(rt: HostRuntime) {
+    assert!(rt; ends_unreported(&rt, &RUN));
 }

@@ -4,7 +4,7 @@ ghost use Rattle.tif_make.specs.Made.{HasRows};
 
 use std::process::Abort;
 use test_room::{FORM, SAMPLES};
-use tif_make::{ImageForm, make_image};
+use tif_make::{ImageForm, Kind, make_image};
 
 /// Makes the file of an image.
 pub fn image<R: Abort + AllocGlobal>(rt: &R, form: &ImageForm, rows: &[u8]) -> Vec<u8>
@@ -22,6 +22,18 @@ pub fn four_by_one<R: Abort + AllocGlobal>(rt: &R) -> Vec<u8> {
 /// Makes the file of one pixel.
 pub fn pixel<R: Abort + AllocGlobal>(rt: &R, inks: [u8; 4]) -> Vec<u8> {
     image(rt, &ImageForm { width: 1, ..FORM }, &inks)
+}
+
+/// Makes the file of linework of 8 by 2 pixels: the left half of row 0 and the right half of row 1.
+pub fn spot_line<R: Abort + AllocGlobal>(rt: &R) -> Vec<u8> {
+    let form = ImageForm {
+        kind: Kind::Line,
+        width: 8,
+        length: 2,
+        rows_per_strip: 2,
+        ..FORM
+    };
+    image(rt, &form, &[0xF0, 0x0F])
 }
 
 /// Replaces one byte.

@@ -1,23 +1,24 @@
 // Runs of one pair of pages of 2 by 1 pixels, in one ink or four: what remains of each ink after curves,
 // limit and paint.
 use crate::files::pixel;
-use crate::room::{CALM, RUN, Want, runs};
+use crate::room::{RUN, Want, runs};
 use std::process::Abort;
 use std::thread::Threads;
 use std::time::Clock;
-use test_room::Plate;
+use test_room::{CALM, Held, Plate, Sides};
 
 const FOUR: &str = "site OSLO finished plates 4 rows 4\ntotal rows 4 sites 1\n";
 
 const ONE: &str = "site OSLO finished plates 1 rows 1\ntotal rows 1 sites 1\n";
 
-// Whether a run of a plan with these keys makes these plates. Its left page has these inks, the layer a.tif,
-// and these layers above it. The files have one pixel each.
+// Whether a run of a plan with these keys has this report and makes these plates. Its left page has these
+// inks, the layer a.tif, and these layers above it. The files have one pixel each.
 fn makes<R: Abort + AllocGlobal + Threads + Clock + Sync>(
     rt: &R,
     [keys, inks, layers]: [&str; 3],
     [first, second]: [[u8; 4]; 2],
-    want: &Want<'_>,
+    report: &str,
+    plates: &[&[Plate<'_>]],
 ) -> bool {
     let plan = format!(in rt.alloc();
         r#"{{"plan":1,"edition":"E1","dpi":1200,"page":[2,1],{keys}
@@ -27,39 +28,51 @@ fn makes<R: Abort + AllocGlobal + Threads + Clock + Sync>(
 {{"kind":"contone","file":"a.tif","scale":2}}{layers}]}}]}}"#
     )
     .expect(rt, "memory");
+    let want = Want {
+        status: 0,
+        report,
+        line: "",
+        plates,
+        taken: &[],
+    };
     let first = pixel(rt, first);
     let second = pixel(rt, second);
-    runs(rt, &RUN, plan.as_str(), [&first, &second], CALM, want)
+    let plan = Held::Plan(plan.as_str());
+    runs(rt, &RUN, plan, [&first, &second], CALM, &want)
 }
 
-const LIMITED: Want<'static> = Want {
-    status: 0,
-    report: FOUR,
-    line: "",
-    plates: &[&[
-        Plate {
-            path: "OUT/OSLO/E1-A-001-C.tif",
-            rows: &[0, 0x80],
-            changes: &[],
-        },
-        Plate {
-            path: "OUT/OSLO/E1-A-001-M.tif",
-            rows: &[0, 0x80],
-            changes: &[],
-        },
-        Plate {
-            path: "OUT/OSLO/E1-A-001-Y.tif",
-            rows: &[0, 0x80],
-            changes: &[],
-        },
-        Plate {
-            path: "OUT/OSLO/E1-A-001-K.tif",
-            rows: &[0, 0xC0],
-            changes: &[],
-        },
-    ]],
-    taken: &[],
-};
+// Returns the plate of a row of one byte at this path.
+fn plate<'a>(path: &'a str, rows: &'a [u8]) -> Plate<'a> {
+    Plate {
+        path,
+        sides: Sides::FourByOne,
+        rows,
+    }
+}
+
+// Whether a run in four inks makes plates of these bytes: cyan, magenta, yellow and black.
+fn makes_four<R: Abort + AllocGlobal + Threads + Clock + Sync>(
+    rt: &R,
+    keys: &str,
+    layers: &str,
+    files: [[u8; 4]; 2],
+    dots: [u8; 4],
+) -> bool {
+    let [c, m, y, k] = dots.map(|dots| [0, dots]);
+    let plates = [
+        plate("OUT/OSLO/E1-A-001-C.tif", &c),
+        plate("OUT/OSLO/E1-A-001-M.tif", &m),
+        plate("OUT/OSLO/E1-A-001-Y.tif", &y),
+        plate("OUT/OSLO/E1-A-001-K.tif", &k),
+    ];
+    makes(
+        rt,
+        [keys, "CMYK", layers],
+        files,
+        FOUR,
+        &[plates.as_slice()],
+    )
+}
 
 // 255 in four inks under a limit of 612 becomes 119, 119, 119 and 255. A tile of 118 and 119 distinguishes
 // 119 from both of its neighbours.
@@ -67,38 +80,14 @@ const LIMITED: Want<'static> = Want {
 fn a_limit_leaves_black(rt: HostRuntime) {
     let keys = r#""limit":612,"tiles":[{"name":"T","width":2,"height":1,"at":[118,119]}],
 "screens":{"C":"tile:T","M":"tile:T","Y":"tile:T","K":"tile:T"},"#;
-    assert!(rt; makes(&rt, [keys, "CMYK", ""], [[255; 4], [0; 4]], &LIMITED));
+    let dots = [0x80, 0x80, 0x80, 0xC0];
+    assert!(rt; makes_four(&rt, keys, "", [[255; 4], [0; 4]], dots));
 }
 
-// Ink in cyan and black alone.
-const TWO_INKS: Want<'static> = Want {
-    status: 0,
-    report: FOUR,
-    line: "",
-    plates: &[&[
-        Plate {
-            path: "OUT/OSLO/E1-A-001-C.tif",
-            rows: &[0, 0x80],
-            changes: &[],
-        },
-        Plate {
-            path: "OUT/OSLO/E1-A-001-M.tif",
-            rows: &[0, 0],
-            changes: &[],
-        },
-        Plate {
-            path: "OUT/OSLO/E1-A-001-Y.tif",
-            rows: &[0, 0],
-            changes: &[],
-        },
-        Plate {
-            path: "OUT/OSLO/E1-A-001-K.tif",
-            rows: &[0, 0xC0],
-            changes: &[],
-        },
-    ]],
-    taken: &[],
-};
+// Ink in cyan and black alone, and in black alone.
+const TWO_INKS: [u8; 4] = [0x80, 0, 0, 0xC0];
+
+const BLACK: [u8; 4] = [0, 0, 0, 0xC0];
 
 // The curve turns 200 into 192, and the limit of 300 leaves 45 of it beside a black of 255. Applying the
 // limit first would leave 38.
@@ -107,7 +96,7 @@ fn curves_come_before_the_limit(rt: HostRuntime) {
     let keys = r#""limit":300,"tiles":[{"name":"T","width":2,"height":1,"at":[44,45]}],
 "screens":{"C":"tile:T","K":"tile:T"},"curves":{"C":[[0,0],[128,110],[255,255]]},"#;
     let files = [[200, 0, 0, 255], [0; 4]];
-    assert!(rt; makes(&rt, [keys, "CMYK", ""], files, &TWO_INKS));
+    assert!(rt; makes_four(&rt, keys, "", files, TWO_INKS));
 }
 
 const BAYER: &str = r#""screens":{"C":"bayer2","K":"bayer2"},"#;
@@ -119,51 +108,19 @@ const KNOCKOUT: &str = r#",{"kind":"contone","file":"b.tif","scale":2,"paint":"k
 // The pixels of the two files: cyan, and black.
 const COLOURS: [[u8; 4]; 2] = [[100, 0, 0, 0], [0, 0, 0, 255]];
 
-const BLACK_OF_FOUR: Want<'static> = Want {
-    status: 0,
-    report: FOUR,
-    line: "",
-    plates: &[&[
-        Plate {
-            path: "OUT/OSLO/E1-A-001-C.tif",
-            rows: &[0, 0],
-            changes: &[],
-        },
-        Plate {
-            path: "OUT/OSLO/E1-A-001-M.tif",
-            rows: &[0, 0],
-            changes: &[],
-        },
-        Plate {
-            path: "OUT/OSLO/E1-A-001-Y.tif",
-            rows: &[0, 0],
-            changes: &[],
-        },
-        Plate {
-            path: "OUT/OSLO/E1-A-001-K.tif",
-            rows: &[0, 0xC0],
-            changes: &[],
-        },
-    ]],
-    taken: &[],
-};
-
-const BLACK: Want<'static> = Want {
-    status: 0,
-    report: ONE,
-    line: "",
-    plates: &[&[Plate {
-        path: "OUT/OSLO/E1-A-001-K.tif",
-        rows: &[0, 0xC0],
-        changes: &[],
-    }]],
-    taken: &[],
-};
-
 // Black over cyan: overprint keeps the cyan, knockout removes it, and a page in black alone prints none.
 #[test]
 fn black_over_cyan(rt: HostRuntime) {
-    assert!(rt; makes(&rt, [BAYER, "CMYK", OVERPRINT], COLOURS, &TWO_INKS));
-    assert!(rt; makes(&rt, [BAYER, "CMYK", KNOCKOUT], COLOURS, &BLACK_OF_FOUR));
-    assert!(rt; makes(&rt, [BAYER, "K", OVERPRINT], COLOURS, &BLACK));
+    assert!(rt; makes_four(&rt, BAYER, OVERPRINT, COLOURS, TWO_INKS));
+    assert!(rt; makes_four(&rt, BAYER, KNOCKOUT, COLOURS, BLACK));
+    let plates = [plate("OUT/OSLO/E1-A-001-K.tif", &[0, 0xC0])];
+    assert!(rt;
+        makes(
+            &rt,
+            [BAYER, "K", OVERPRINT],
+            COLOURS,
+            ONE,
+            &[plates.as_slice()]
+        )
+    );
 }

@@ -1,83 +1,44 @@
 // Runs that count ink keys: the lines after the report, whether or not sites drop out.
-use crate::editions::{SPOT, TWO_PAGES_PLATE};
-use crate::files::{four_by_one, image};
+use crate::editions::{ONE_SITE, SPOT, makes_two_pages};
+use crate::faults::ends_unreported;
+use crate::files::{four_by_one, spot_line};
 use crate::leaving::EMPTY;
-use crate::room::{CALM, Failing, Want, check, runs};
-use ring_lanes::Source;
+use crate::room::{Want, check, runs};
 use std::process::Abort;
 use std::thread::Threads;
 use std::time::Clock;
-use test_room::{FORM, TWO_PAGES};
-use tif_make::{ImageForm, Kind};
+use test_room::{CALM, FOUR_PAGES, Failing, Held, TWO_PAGES};
 
-const FOUR: Want<'static> = Want {
-    status: 0,
-    report: "site OSLO finished plates 1 rows 2
-total rows 2 sites 1
-keys 0 A-001-K 3 5 0 0
-",
-    line: "",
-    plates: &[&[TWO_PAGES_PLATE]],
-    taken: &[(
-        Source::Ring {
-            reader: 0,
-            readers: 2,
-            places: 64,
-        },
-        &[0, 1],
-    )],
-};
+// Whether a run of the two pages with these arguments makes their plate and reports this line of counts. The
+// first site takes its rows from a ring of this many places.
+fn counts<R: Abort + AllocGlobal + Threads + Clock + Sync>(
+    rt: &R,
+    words: &[&str],
+    places: u32,
+    line: &str,
+) -> bool {
+    let report = format!(in rt.alloc(); "{ONE_SITE}keys 0 A-001-K {line}\n").expect(rt, "memory");
+    makes_two_pages(rt, words, report.as_str(), 2, places)
+}
 
 // The row 0xAB has set pixels in columns 0, 2, 4, 6 and 7, and 0x13 in columns 3, 6 and 7.
 #[test]
 fn counts_follow_the_report(rt: HostRuntime) {
     let words = ["keys", "plan.json", "FILES", "OUT", "4"];
-    let file = four_by_one(&rt);
-    assert!(rt; runs(&rt, &words, TWO_PAGES, [&file, &[]], CALM, &FOUR));
+    assert!(rt; counts(&rt, &words, 64, "3 5 0 0"));
 }
-
-const THREE: Want<'static> = Want {
-    status: 0,
-    report: "site OSLO finished plates 1 rows 2
-total rows 2 sites 1
-keys 0 A-001-K 4 4 0
-",
-    line: "",
-    plates: &[&[TWO_PAGES_PLATE]],
-    taken: &[(
-        Source::Ring {
-            reader: 0,
-            readers: 2,
-            places: 1,
-        },
-        &[0, 1],
-    )],
-};
 
 // A ring of one place, and a patience of one look per turn.
 #[test]
 fn counts_at_one_place(rt: HostRuntime) {
     let words = ["keys", "plan.json", "FILES", "OUT", "3", "1", "1"];
-    let file = four_by_one(&rt);
-    assert!(rt; runs(&rt, &words, TWO_PAGES, [&file, &[]], CALM, &THREE));
+    assert!(rt; counts(&rt, &words, 1, "4 4 0"));
 }
-
-const SIXTEEN: Want<'static> = Want {
-    status: 0,
-    report: "site OSLO finished plates 1 rows 2
-total rows 2 sites 1
-keys 0 A-001-K 1 0 1 1 1 0 2 2 0 0 0 0 0 0 0 0
-",
-    line: "",
-    plates: &[&[TWO_PAGES_PLATE]],
-    taken: &[],
-};
 
 #[test]
 fn counts_of_a_column_each(rt: HostRuntime) {
     let words = ["keys", "plan.json", "FILES", "OUT", "16", "2"];
-    let file = four_by_one(&rt);
-    assert!(rt; runs(&rt, &words, TWO_PAGES, [&file, &[]], CALM, &SIXTEEN));
+    assert!(rt; counts(&rt, &words, 2, "1 0 1 1 1 0 2 2 0 0 0 0 0 0 0 0"));
 }
 
 // Arguments that are refused: a missing, zero, too large or malformed count of keys, an empty path, or too
@@ -105,7 +66,8 @@ const REFUSED: Want<'static> = Want {
 fn refuses_keys(rt: HostRuntime) {
     let file = four_by_one(&rt);
     for (n, words) in BAD.iter().enumerate() {
-        let holds = runs(&rt, words, TWO_PAGES, [&file, &[]], CALM, &REFUSED);
+        let plan = Held::Small(&TWO_PAGES);
+        let holds = runs(&rt, words, plan, [&file, &[]], CALM, &REFUSED);
         check(&rt, n, holds);
     }
 }
@@ -144,7 +106,7 @@ keys 1 A-002-K 8
 // Whether a run with one key, of this plan for two sites, reports this where these calls of the racks fail.
 fn leaves<R: Abort + AllocGlobal + Threads + Clock + Sync>(
     rt: &R,
-    plan: &str,
+    plan: Held<'_>,
     racks: [Option<u64>; 2],
     report: &str,
 ) -> bool {
@@ -160,16 +122,14 @@ fn leaves<R: Abort + AllocGlobal + Threads + Clock + Sync>(
     runs(rt, &words, plan, [&four_by_one(rt), &[]], failing, &want)
 }
 
-// Four pages for two sites. Page 3, the right page of the last pair, is the page with the image.
-const LAST: &str = r#"{"plan":1,"edition":"E1","dpi":1200,"page":[8,2],"screens":{"K":"bayer4"},
-"pages":[{"name":"w","inks":"K","layers":[]},
-{"name":"p","inks":"K","layers":[{"kind":"contone","file":"a.tif","scale":2}]}],
-"sections":[{"name":"A","pages":["w","w","p","w"]}],"sites":[{"name":"OSLO"},{"name":"BERGEN"}]}"#;
-
 #[test]
 fn counts_are_whole_where_sites_leave(rt: HostRuntime) {
     for (n, (racks, report)) in LEFT.iter().enumerate() {
-        check(&rt, n, leaves(&rt, LAST, *racks, report));
+        check(
+            &rt,
+            n,
+            leaves(&rt, Held::Small(&FOUR_PAGES), *racks, report),
+        );
     }
 }
 
@@ -182,7 +142,7 @@ keys 1 A-002-K 0
 
 #[test]
 fn counts_of_empty_pages(rt: HostRuntime) {
-    assert!(rt; leaves(&rt, EMPTY, [None, Some(5)], BLANK));
+    assert!(rt; leaves(&rt, Held::Plan(EMPTY), [None, Some(5)], BLANK));
 }
 
 const SPOT_KEYS: Want<'static> = Want {
@@ -199,34 +159,23 @@ keys 0 A-001-S 4 4 0 0
 
 #[test]
 fn counts_a_spot(rt: HostRuntime) {
-    let form = ImageForm {
-        kind: Kind::Line,
-        width: 8,
-        length: 2,
-        rows_per_strip: 2,
-        ..FORM
-    };
-    let line = image(&rt, &form, &[0xF0, 0x0F]);
+    let line = spot_line(&rt);
     let words = ["keys", "plan.json", "FILES", "OUT", "4"];
-    assert!(rt; runs(&rt, &words, SPOT, [&line, &[]], CALM, &SPOT_KEYS));
+    assert!(rt;
+        runs(
+            &rt,
+            &words,
+            Held::Plan(SPOT),
+            [&line, &[]],
+            CALM,
+            &SPOT_KEYS
+        )
+    );
 }
-
-const UNTOLD: Want<'static> = Want {
-    status: 7,
-    report: "",
-    line: "",
-    plates: &[&[TWO_PAGES_PLATE]],
-    taken: &[],
-};
 
 // The output takes the report and the counts in one call, once the plates are complete.
 #[test]
 fn ends_where_the_output_takes_no_counts(rt: HostRuntime) {
-    let failing = Failing {
-        out: Some(0),
-        ..CALM
-    };
     let words = ["keys", "plan.json", "FILES", "OUT", "4"];
-    let file = four_by_one(&rt);
-    assert!(rt; runs(&rt, &words, TWO_PAGES, [&file, &[]], failing, &UNTOLD));
+    assert!(rt; ends_unreported(&rt, &words));
 }

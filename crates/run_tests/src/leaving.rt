@@ -1,9 +1,9 @@
 // Sites that drop out because their racks fail.
-use crate::room::{CALM, Failing, RUN, Want, check, runs};
+use crate::room::{RUN, Want, check, runs};
 use std::process::Abort;
 use std::thread::Threads;
 use std::time::Clock;
-use test_room::Plate;
+use test_room::{CALM, Failing, Held, Plate};
 
 /// Four empty pages for two sites.
 pub const EMPTY: &str = r#"{"plan":1,"edition":"E1","dpi":1200,"page":[8,2],
@@ -37,14 +37,8 @@ fn ends<R: Abort + AllocGlobal + Threads + Clock + Sync>(
         plates,
         taken: &[],
     };
-    runs(
-        rt,
-        &RUN,
-        EMPTY,
-        [&[], &[]],
-        Failing { racks, ..CALM },
-        &want,
-    )
+    let failing = Failing { racks, ..CALM };
+    runs(rt, &RUN, Held::Plan(EMPTY), [&[], &[]], failing, &want)
 }
 
 fn leaves<R: Abort + AllocGlobal + Threads + Clock + Sync>(

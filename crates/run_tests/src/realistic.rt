@@ -3,11 +3,12 @@
 ghost use Rattle.std.specs.Prelude.{◌≡◌, length};
 
 use crate::files::image;
-use crate::room::{CALM, RUN, Want, racks, reports, shelf};
+use crate::room::{RUN, Want, files_of, racks_of};
 use pr_rack::MemRack;
 use std::process::Abort;
 use std::thread::Threads;
 use std::time::Clock;
+use test_room::{CALM, Held};
 use tif_make::{Compression, ImageForm, Kind, Order, Planar};
 
 const PLAN: &str = r#"{"plan":1,"edition":"E1","dpi":1200,"page":[800,1200],"margins":[32,24,32,24],
@@ -101,10 +102,10 @@ fn are_whole(racks: &[MemRack]) -> bool {
 }
 
 // Whether the run of these files has the expected result, and three racks are complete.
-fn makes_all<R: Abort + AllocGlobal + Threads + Clock + Sync>(
+fn makes_all<'a, R: Abort + AllocGlobal + Threads + Clock + Sync>(
     rt: &R,
-    first: &[u8],
-    second: &[u8],
+    first: &'a [u8],
+    second: &'a [u8],
 ) -> bool {
     let want = Want {
         status: 0,
@@ -113,9 +114,11 @@ fn makes_all<R: Abort + AllocGlobal + Threads + Clock + Sync>(
         plates: &[],
         taken: &[],
     };
-    let mut shelf = shelf(rt, PLAN, first, second, None);
-    let mut racks = racks(rt, CALM.racks);
-    reports(rt, &RUN, &mut shelf, racks.as_mut_slice(), CALM, &want) && are_whole(racks.as_slice())
+    let files = files_of(Held::Plan(PLAN), [first, second]);
+    match racks_of(rt, &RUN, &files, CALM, &want) {
+        Some(racks) => are_whole(&racks),
+        None => false,
+    }
 }
 
 #[test]

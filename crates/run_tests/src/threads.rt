@@ -4,7 +4,7 @@ ghost use Rattle.std.specs.Prelude.{refl, ◌≡◌, Some, ◌≤◌, is_some, l
 ghost use Rattle.pr_rack.specs.Rack.{none_begun};
 ghost use Rattle.cmd_base.specs.Seen.{AreIdle};
 
-use crate::room::{command, shelf, sink};
+use crate::room::files_of;
 use pr_rack::{MemRack, Rack, RackFault};
 use ring_lanes::{Held, Source};
 use std::alloc::Global;
@@ -13,7 +13,7 @@ use std::process::Abort;
 use std::sync::atomic::{AtomicU64, Ordering};
 use std::thread::Threads;
 use std::time::Clock;
-use test_room::RACKS;
+use test_room::{CALM, Desk, Ended, Held as Kept, RACKS, prints};
 
 /// What a rack does in one of its row calls.
 #[derive(Clone, Copy)]
@@ -201,29 +201,21 @@ const RUN_AT_64: Order<'static> = Order {
 
 const RUN_AT_2: Order<'static> = Order {
     words: &["run", "plan.json", "FILES", "OUT", "2", "65536"],
-    plan: LONG,
-    rows: 1024,
-    report: REPORT,
-    readers: 2,
     places: 2,
+    ..RUN_AT_64
 };
 
 const KEYS_AT_64: Order<'static> = Order {
     words: &["keys", "plan.json", "FILES", "OUT", "1", "64", "65536"],
-    plan: LONG,
-    rows: 1024,
     report: KEYS_REPORT,
     readers: 3,
-    places: 64,
+    ..RUN_AT_64
 };
 
 const KEYS_AT_2: Order<'static> = Order {
     words: &["keys", "plan.json", "FILES", "OUT", "1", "2", "65536"],
-    plan: LONG,
-    rows: 1024,
-    report: KEYS_REPORT,
-    readers: 3,
     places: 2,
+    ..KEYS_AT_64
 };
 
 /// Returns whether the racks of both sites took all rows, in order, from one ring.
@@ -251,11 +243,15 @@ fn reports<'c, R: Abort + AllocGlobal + Threads + Clock + Sync>(
     requires racks { 16 ≤ length racks.old }
     requires idle { AreIdle ⟦<Watched<'c> as Rack>⟧ racks.old }
 {
-    let mut shelf = shelf(rt, order.plan, &[], &[], None);
-    let mut out = sink(rt, None);
-    let mut note = sink(rt, None);
-    let status = command(rt, order.words, &mut shelf, racks, &mut out, &mut note);
-    status == 0 && out.bytes() == order.report.as_bytes()
+    let files = files_of(Kept::Plan(order.plan), [&[], &[]]);
+    let mut desk = Desk::new(rt.alloc(), &files, &[], &[], None);
+    let ended = Ended {
+        status: 0,
+        out: order.report.as_bytes(),
+        line: "",
+    };
+    let printed = prints(rt, rt.alloc(), order.words, &mut desk, racks, CALM, &ended);
+    printed.expect(rt, "memory")
 }
 
 /// Runs the command over racks that wait for each other in this way.
@@ -315,12 +311,12 @@ fn sites_run_side_by_side_of_key_counts(rt: HostRuntime) {
 // With two places no rack receives a row that is two ahead of the other's calls, although that one pauses.
 #[test]
 fn sites_share_one_ring(rt: HostRuntime) {
-    assert_eq!(rt; times_alone(&rt, RUN_AT_2, [Stop::Goes, Stop::Pauses]), 0);
+    assert!(rt; times_alone(&rt, RUN_AT_2, [Stop::Goes, Stop::Pauses]) == 0);
 }
 
 #[test]
 fn sites_and_key_counts_share_one_ring(rt: HostRuntime) {
-    assert_eq!(rt; times_alone(&rt, KEYS_AT_2, [Stop::Goes, Stop::Pauses]), 0);
+    assert!(rt; times_alone(&rt, KEYS_AT_2, [Stop::Goes, Stop::Pauses]) == 0);
 }
 
 // The first rack waits in the call for row 10 until the other has begun the call for row 70. A writer whose

@@ -1,15 +1,24 @@
-// A shelf of plans, the image and plates, some with other bytes than their own.
-ghost use Rattle.std.specs.Prelude.{◌≤◌, None, length};
+// A shelf of plans, images and plates, some with other bytes than their own.
+ghost use Rattle.std.specs.Prelude.{None};
 
-use crate::files::IMAGE;
-use pr_base::raised;
+use crate::files::{FORM, SAMPLES};
+use crate::plans::{SmallPlan, plan_text};
+use crate::plates::{Plate, plate_of};
+use pr_base::{NoMemory, raised};
 use pr_ports::{LoadFault, Shelf};
-use std::alloc::{AllocError, Global};
+use std::alloc::Global;
+use tif_make::make_image;
 
 /// What is at a path.
 #[derive(Clone, Copy)]
 pub enum Held<'a> {
+    /// The text of a plan.
     Plan(&'a str),
+    /// The same in two parts.
+    Parts(&'a str, &'a str),
+    Small(&'a SmallPlan<'a>),
+    Bytes(&'a [u8]),
+    /// The image of 4 by 1 pixels.
     Image,
     /// The image with this byte at this offset.
     Changed(usize, u8),
@@ -30,13 +39,6 @@ pub enum Held<'a> {
 /// A path, and what is there.
 pub type File<'a> = (&'a str, Held<'a>);
 
-/// The path of a plate, and its bytes.
-#[derive(Clone, Copy)]
-pub struct Right<'a> {
-    pub path: &'a str,
-    pub bytes: &'a [u8],
-}
-
 /// A shelf with these files and plates, in place of which the paths of `wrong` have what is said there. Loads
 /// of other paths fail, and so does the load with the number in `failing`. It counts its loads, and its
 /// contracts report nothing of its files.
@@ -44,7 +46,7 @@ pub struct Right<'a> {
 pub struct Desk<'a> {
     pub alloc: Global,
     pub files: &'a [File<'a>],
-    pub plates: &'a [Right<'a>],
+    pub plates: &'a [Plate<'a>],
     pub wrong: &'a [File<'a>],
     pub failing: Option<u64>,
     pub loads: u64,
@@ -52,9 +54,9 @@ pub struct Desk<'a> {
     pub longs: u64,
 }
 
-/// Returns the bytes that a path has, of which these are the right ones if it is a plate's.
-fn bytes_of(alloc: Global, held: Held<'_>, right: &[u8]) -> Result<Vec<u8>, AllocError> {
-    let mut bytes = unchanged(held, right).to_vec(alloc)?;
+/// Returns the bytes that a path has, which has this plate if it is a plate's.
+fn bytes_of(alloc: Global, held: Held<'_>, plate: Option<Plate<'_>>) -> Result<Vec<u8>, NoMemory> {
+    let mut bytes = unchanged(alloc, held, plate)?;
     match held {
         Held::Changed(at, with) => {
             if let Some(byte) = bytes.get_mut(at) {
@@ -73,12 +75,29 @@ fn bytes_of(alloc: Global, held: Held<'_>, right: &[u8]) -> Result<Vec<u8>, Allo
     Ok(bytes)
 }
 
-/// The bytes that are changed to what a path has.
-fn unchanged<'a>(held: Held<'a>, right: &'a [u8]) -> &'a [u8] {
+/// Returns the bytes that are changed to what a path has.
+fn unchanged(alloc: Global, held: Held<'_>, plate: Option<Plate<'_>>) -> Result<Vec<u8>, NoMemory> {
     match held {
-        Held::Plan(text) => text.as_bytes(),
-        Held::Image | Held::Changed(_, _) => &IMAGE,
-        _ => right,
+        Held::Plan(text) => Ok(text.as_bytes().to_vec(alloc)?),
+        Held::Parts(front, back) => joined(alloc, front, back),
+        Held::Small(plan) => Ok(plan_text(alloc, plan)?.as_bytes().to_vec(alloc)?),
+        Held::Bytes(bytes) => Ok(bytes.to_vec(alloc)?),
+        Held::Image | Held::Changed(_, _) => make_image(alloc, &FORM, &SAMPLES),
+        _ => right_bytes(alloc, plate),
+    }
+}
+
+fn joined(alloc: Global, front: &str, back: &str) -> Result<Vec<u8>, NoMemory> {
+    let mut bytes = front.as_bytes().to_vec(alloc)?;
+    bytes.extend_from_slice(back.as_bytes())?;
+    Ok(bytes)
+}
+
+/// Returns the bytes of a plate, or none.
+fn right_bytes(alloc: Global, plate: Option<Plate<'_>>) -> Result<Vec<u8>, NoMemory> {
+    match plate {
+        Some(plate) => plate_of(alloc, plate.sides, plate.rows),
+        None => Ok(Vec::new(alloc)),
     }
 }
 
@@ -91,10 +110,30 @@ fn find<'a>(files: &[File<'a>], path: &str) -> Option<Held<'a>> {
 }
 
 impl<'a> Desk<'a> {
-    /// Returns the bytes of the plate at a path, or none.
-    fn right(&self, path: &str) -> Option<&'a [u8]> {
+    /// Returns a desk that was asked for nothing yet.
+    pub fn new(
+        alloc: Global,
+        files: &'a [File<'a>],
+        plates: &'a [Plate<'a>],
+        wrong: &'a [File<'a>],
+        failing: Option<u64>,
+    ) -> Desk<'a> {
+        Desk {
+            alloc,
+            files,
+            plates,
+            wrong,
+            failing,
+            loads: 0,
+            faults: 0,
+            longs: 0,
+        }
+    }
+
+    /// Returns the plate at a path, or none.
+    fn right(&self, path: &str) -> Option<Plate<'a>> {
         match self.plates.iter().find(|plate| plate.path == path) {
-            Some(plate) => Some(plate.bytes),
+            Some(plate) => Some(*plate),
             None => None,
         }
     }
@@ -126,8 +165,7 @@ impl<'a> Shelf for Desk<'a> {
             self.faults = raised(self.faults);
             return Err(LoadFault::Failed);
         }
-        let right = self.right(path).unwrap_or(&[]);
-        let Ok(bytes) = bytes_of(self.alloc, held, right) else {
+        let Ok(bytes) = bytes_of(self.alloc, held, self.right(path)) else {
             return Err(LoadFault::Memory);
         };
         if matches!(held, Held::TooLong) || bytes.len() as u64 > limit {

@@ -1,13 +1,15 @@
-// What the tests of the commands share: a shelf, racks and sinks in memory, a call of the program, and what the
+// What the tests of the commands share: a shelf, racks and sinks in memory, runs of the program, and what the
 // racks have afterwards. No function aborts; the tests do, where one is out of memory.
 #![tactic(auto)]
 
 mod desk;
 mod files;
+mod plans;
 mod plates;
 mod room;
 
-pub use desk::{Desk, File, Held, Right};
-pub use files::{FORM, IMAGE, PAIR, PLATE, SAMPLES, TWO_PAGES, ZONED, plate_of};
-pub use plates::{Plate, are_empty, has_plates, have_plates, took, took_rows};
-pub use room::{RACKS, calls_of, command, racks, sink};
+pub use desk::{Desk, File, Held};
+pub use files::{FORM, PLATE, SAMPLES};
+pub use plans::{FOUR_PAGES, SmallPlan, TWO_PAGES, ZONED, plan_text};
+pub use plates::{Plate, Sides, are_empty, has_plates, have_plates, plate_of, took, took_rows};
+pub use room::{CALM, Ended, Failing, RACKS, prints, racks, racks_after, tells};

@@ -14,8 +14,33 @@ use std::time::Clock;
 /// The most sites that an edition has.
 pub const RACKS: usize = 16;
 
+/// The calls that fail: of the shelf, of the first two racks, of the output, and of the error output.
+#[derive(Clone, Copy)]
+pub struct Failing {
+    pub shelf: Option<u64>,
+    pub racks: [Option<u64>; 2],
+    pub out: Option<u64>,
+    pub note: Option<u64>,
+}
+
+/// No call fails.
+pub const CALM: Failing = Failing {
+    shelf: None,
+    racks: [None; 2],
+    out: None,
+    note: None,
+};
+
+/// How a command ends: its status, its output, and its line on the error output.
+#[derive(Clone, Copy)]
+pub struct Ended<'a> {
+    pub status: u8,
+    pub out: &'a [u8],
+    pub line: &'a str,
+}
+
 /// Returns the number of a call as a list, which is empty for None.
-pub fn calls_of(alloc: Global, call: Option<u64>) -> Result<Vec<u64>, NoMemory> {
+fn calls_of(alloc: Global, call: Option<u64>) -> Result<Vec<u64>, NoMemory> {
     let mut calls = Vec::new(alloc);
     if let Some(call) = call {
         calls.push(call)?;
@@ -24,7 +49,7 @@ pub fn calls_of(alloc: Global, call: Option<u64>) -> Result<Vec<u64>, NoMemory> 
 }
 
 /// Returns a sink whose call with this number fails.
-pub fn sink(alloc: Global, failing: Option<u64>) -> Result<MemSink, NoMemory> {
+fn sink(alloc: Global, failing: Option<u64>) -> Result<MemSink, NoMemory> {
     let calls = calls_of(alloc, failing)?;
     Ok(MemSink::new(alloc, calls))
 }
@@ -63,7 +88,7 @@ fn texts(alloc: Global, words: &[&str]) -> Result<Vec<String>, NoMemory> {
 }
 
 /// Runs a command with these arguments, and returns its status.
-pub fn command<T: Threads + Clock + Sync, H: Shelf, R: Rack + Send, S: Sink, E: Sink>(
+fn command<T: Threads + Clock + Sync, H: Shelf, R: Rack + Send, S: Sink, E: Sink>(
     rt: &T,
     alloc: Global,
     words: &[&str],
@@ -93,4 +118,74 @@ fn answer<T: Threads + Clock + Sync, H: Shelf, R: Rack + Send, S: Sink, E: Sink>
     requires idle { AreIdle R.Rack racks.old }
 {
     plate_main(rt, alloc, words, shelf, racks, out, note)
+}
+
+/// Returns whether a command with these arguments ends with this status and line. The error output's call
+/// with the number `failing` fails.
+pub fn tells<T: Threads + Clock + Sync, H: Shelf, R: Rack + Send, S: Sink>(
+    rt: &T,
+    alloc: Global,
+    words: &[&str],
+    shelf: &mut H,
+    racks: &mut [R],
+    out: &mut S,
+    failing: Option<u64>,
+    ended: &Ended<'_>,
+) -> Result<bool, NoMemory>
+    requires racks { 16 ≤ length racks.old }
+    requires idle { AreIdle R.Rack racks.old }
+{
+    let mut note = sink(alloc, failing)?;
+    let status = command(rt, alloc, words, shelf, racks, out, &mut note)?;
+    Ok(status == ended.status && note.bytes() == ended.line.as_bytes())
+}
+
+/// Returns whether a command with these arguments ends so. These calls of the two outputs fail.
+pub fn prints<T: Threads + Clock + Sync, H: Shelf, R: Rack + Send>(
+    rt: &T,
+    alloc: Global,
+    words: &[&str],
+    shelf: &mut H,
+    racks: &mut [R],
+    failing: Failing,
+    ended: &Ended<'_>,
+) -> Result<bool, NoMemory>
+    requires racks { 16 ≤ length racks.old }
+    requires idle { AreIdle R.Rack racks.old }
+{
+    let mut out = sink(alloc, failing.out)?;
+    let told = tells(
+        rt,
+        alloc,
+        words,
+        shelf,
+        racks,
+        &mut out,
+        failing.note,
+        ended,
+    )?;
+    Ok(told && out.bytes() == ended.out)
+}
+
+/// Runs a command with these arguments over sixteen new racks, and returns these if it ends so. These calls
+/// of the racks and of the two outputs fail.
+pub fn racks_after<T: Threads + Clock + Sync, H: Shelf>(
+    rt: &T,
+    alloc: Global,
+    words: &[&str],
+    shelf: &mut H,
+    failing: Failing,
+    ended: &Ended<'_>,
+) -> Result<Option<Vec<MemRack>>, NoMemory> {
+    let mut racks = racks(alloc, failing.racks)?;
+    let printed = prints(
+        rt,
+        alloc,
+        words,
+        shelf,
+        racks.as_mut_slice(),
+        failing,
+        ended,
+    )?;
+    Ok(if printed { Some(racks) } else { None })
 }

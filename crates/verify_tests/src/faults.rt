@@ -1,31 +1,25 @@
 // What `verify` reports of its arguments, its plan and its image, and of a shelf and sinks that fail.
 use crate::files::TWO_PAGES_PLATE;
-use crate::room::{CALM, Case, VERIFY, check, does};
+use crate::room::{Case, VERIFY, check, does};
 use std::process::Abort;
 use std::thread::Threads;
 use std::time::Clock;
-use test_room::{Right, TWO_PAGES};
-
-// The plate of the two pages.
-const PLATES: [Right<'static>; 1] = [Right {
-    path: "OUT/OSLO/E1-A-001-K.tif",
-    bytes: &TWO_PAGES_PLATE,
-}];
+use test_room::{CALM, Failing, Held, TWO_PAGES};
 
 // Whether `verify` with these arguments, right plates and these failing calls prints nothing, and ends with
 // this status and this line.
 fn refuses<R: Abort + AllocGlobal + Threads + Clock + Sync>(
     rt: &R,
     words: &[&str],
-    plan: &str,
-    failing: [Option<u64>; 3],
+    plan: Held<'_>,
+    failing: Failing,
     status: u8,
     line: &str,
     loads: u64,
 ) -> bool {
     let case = Case {
         plan,
-        plates: &PLATES,
+        plates: &[TWO_PAGES_PLATE],
         wrong: &[],
         failing,
         status,
@@ -51,7 +45,8 @@ const WORDS: [&[&str]; 8] = [
 #[test]
 fn refuses_other_words(rt: HostRuntime) {
     for (n, words) in WORDS.iter().enumerate() {
-        let holds = refuses(&rt, words, TWO_PAGES, CALM, 2, "plateroom: words\n", 0);
+        let line = "plateroom: words\n";
+        let holds = refuses(&rt, words, Held::Small(&TWO_PAGES), CALM, 2, line, 0);
         check(&rt, n, holds);
     }
 }
@@ -61,46 +56,52 @@ const AS_LINE: &str = r#"{"plan":1,"edition":"E1","dpi":1200,"page":[8,2],
 "pages":[{"name":"w","inks":"K","layers":[{"kind":"line","file":"a.tif"}]}],
 "sections":[{"name":"A","pages":["w","w"]}],"sites":[{"name":"OSLO"}]}"#;
 
-// A plan, the failing calls of the shelf, the output and the error output, the status, the line, and the
-// number of loads: of the plan, the image and the plate.
-const FAULTS: [(&str, [Option<u64>; 3], u8, &str, u64); 7] = [
-    ("{", CALM, 3, "plateroom: plan: not JSON\n", 1),
+// A plan that is refused, the status, the line, and the number of loads: of the plan and the image.
+const REFUSED: [(&str, u8, &str, u64); 2] = [
+    ("{", 3, "plateroom: plan: not JSON\n", 1),
+    (AS_LINE, 4, "plateroom: file a.tif: tag 277: samples\n", 2),
+];
+
+#[test]
+fn tells_what_is_refused(rt: HostRuntime) {
+    for (n, (plan, status, line, loads)) in REFUSED.iter().enumerate() {
+        let holds = refuses(&rt, &VERIFY, Held::Plan(plan), CALM, *status, line, *loads);
+        check(&rt, n, holds);
+    }
+}
+
+// The failing calls of the shelf, the output and the error output, the status, the line, and the number of
+// loads: of the plan, the image and the plate.
+const FAILED: [([Option<u64>; 3], u8, &str, u64); 5] = [
+    ([Some(0), None, None], 5, "plateroom: shelf: plan.json\n", 1),
     (
-        AS_LINE,
-        CALM,
-        4,
-        "plateroom: file a.tif: tag 277: samples\n",
-        2,
-    ),
-    (
-        TWO_PAGES,
-        [Some(0), None, None],
-        5,
-        "plateroom: shelf: plan.json\n",
-        1,
-    ),
-    (
-        TWO_PAGES,
         [Some(1), None, None],
         5,
         "plateroom: shelf: FILES/a.tif\n",
         2,
     ),
     (
-        TWO_PAGES,
         [Some(2), None, None],
         5,
         "plateroom: shelf: OUT/OSLO/E1-A-001-K.tif\n",
         3,
     ),
-    (TWO_PAGES, [None, Some(0), None], 7, "", 3),
-    (TWO_PAGES, [Some(2), None, Some(0)], 7, "", 3),
+    ([None, Some(0), None], 7, "", 3),
+    ([Some(2), None, Some(0)], 7, "", 3),
 ];
 
 #[test]
-fn tells_what_is_refused_and_what_failed(rt: HostRuntime) {
-    for (n, (plan, failing, status, line, loads)) in FAULTS.iter().enumerate() {
-        let holds = refuses(&rt, &VERIFY, plan, *failing, *status, line, *loads);
+fn tells_what_failed(rt: HostRuntime) {
+    for (n, (calls, status, line, loads)) in FAILED.iter().enumerate() {
+        let [shelf, out, note] = *calls;
+        let failing = Failing {
+            shelf,
+            out,
+            note,
+            ..CALM
+        };
+        let plan = Held::Small(&TWO_PAGES);
+        let holds = refuses(&rt, &VERIFY, plan, failing, *status, line, *loads);
         check(&rt, n, holds);
     }
 }

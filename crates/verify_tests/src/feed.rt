@@ -3,7 +3,7 @@
 ghost use Rattle.std.specs.Prelude.{◌≡◌};
 ghost use Rattle.press_job.specs.Rows.{plate_frames};
 
-use crate::order::GROUPS;
+use crate::files::GROUPS;
 use crate::room::check;
 use plan_json::read_plan;
 use plate_verify::{Checked, first_difference, verify};
@@ -13,7 +13,7 @@ use press_feed::{Feed, Job, prepare};
 use std::alloc::Global;
 use std::process::Abort;
 use std::thread::Threads;
-use test_room::{Desk, Held, ZONED};
+use test_room::{Desk, Held, ZONED, plan_text};
 
 // Whether `verify` finds the four plates of a job below OUT to be the same.
 fn are_same<F: RowFeed, H: Shelf>(alloc: Global, job: &Job, feed: &mut F, shelf: &mut H) -> bool
@@ -40,12 +40,23 @@ fn job_of<R: Abort + AllocGlobal + Threads + Sync, H: Shelf>(
     }
 }
 
+// The same, and drops the feed.
+fn are_same_owned<F: RowFeed + Drop, H: Shelf>(
+    alloc: Global,
+    job: &Job,
+    feed: F,
+    shelf: &mut H,
+) -> bool
+    requires { F.left feed ≡ plate_frames job.now.plan job.now.files }
+{
+    let mut feed = feed;
+    are_same(alloc, job, &mut feed, shelf)
+}
+
 // Whether the plates of a job below OUT are the same, with a feed opened for them.
 fn looks<R: Abort + AllocGlobal, H: Shelf>(rt: &R, job: &Job, shelf: &mut H) -> bool {
-    let Ok(mut feed) = Feed::open(rt.alloc(), job) else {
-        rt.abort();
-    };
-    are_same(rt.alloc(), job, &mut feed, shelf)
+    let feed = Feed::open(rt.alloc(), job).expect(rt, "memory");
+    are_same_owned(rt.alloc(), job, feed, shelf)
 }
 
 // Whether the plates of a plan's job are the same.
@@ -60,21 +71,14 @@ fn looks_at_plan<R: Abort + AllocGlobal + Threads + Sync, H: Shelf>(
 
 #[test]
 fn looks_at_the_plates_of_a_job(rt: HostRuntime) {
-    let mut desk = Desk {
-        alloc: rt.alloc(),
-        files: &[
-            ("plan.json", Held::Plan(ZONED)),
-            ("FILES/a.tif", Held::Image),
-        ],
-        plates: &GROUPS,
-        wrong: &[],
-        failing: None,
-        loads: 0,
-        faults: 0,
-        longs: 0,
-    };
-    assert!(rt; looks_at_plan(&rt, ZONED, &mut desk));
-    assert_eq!(rt; desk.loads, 5);
+    let files = [
+        ("plan.json", Held::Small(&ZONED)),
+        ("FILES/a.tif", Held::Image),
+    ];
+    let mut desk = Desk::new(rt.alloc(), &files, &GROUPS, &[], None);
+    let plan = plan_text(rt.alloc(), &ZONED).expect(&rt, "memory");
+    assert!(rt; looks_at_plan(&rt, plan.as_str(), &mut desk));
+    assert!(rt; desk.loads == 5);
 }
 
 // Two files, and the first offset at which they have different bytes or only one of them has a byte.

@@ -1,104 +1,60 @@
 // Plans of small pages and their plates, as given by the definition of a plate's file.
+use test_room::{Plate, Sides, SmallPlan, TWO_PAGES};
 
-/// The plate of `TWO_PAGES`: 16 by 2 pixels. The rows AB 00 and 13 00 are packed to three bytes each, row 0 at offset 8 and
-/// row 1 at offset 11. They end at 14, where the directory begins. The plate has 14 + 166 bytes.
-pub const TWO_PAGES_PLATE: [u8; 180] = [
-    0x49, 0x49, 0x2A, 0, 14, 0, 0, 0, //
-    1, 0xAB, 0, 1, 0x13, 0, //
-    0x0C, 0, //
-    0x00, 1, 4, 0, 1, 0, 0, 0, 16, 0, 0, 0, //
-    0x01, 1, 4, 0, 1, 0, 0, 0, 2, 0, 0, 0, //
-    0x02, 1, 3, 0, 1, 0, 0, 0, 1, 0, 0, 0, //
-    0x03, 1, 3, 0, 1, 0, 0, 0, 5, 0x80, 0, 0, //
-    0x06, 1, 3, 0, 1, 0, 0, 0, 0, 0, 0, 0, //
-    0x11, 1, 4, 0, 1, 0, 0, 0, 8, 0, 0, 0, //
-    0x15, 1, 3, 0, 1, 0, 0, 0, 1, 0, 0, 0, //
-    0x16, 1, 4, 0, 1, 0, 0, 0, 0, 0x10, 0, 0, //
-    0x17, 1, 4, 0, 1, 0, 0, 0, 6, 0, 0, 0, //
-    0x1A, 1, 5, 0, 1, 0, 0, 0, 164, 0, 0, 0, //
-    0x1B, 1, 5, 0, 1, 0, 0, 0, 172, 0, 0, 0, //
-    0x28, 1, 3, 0, 1, 0, 0, 0, 2, 0, 0, 0, //
-    0, 0, 0, 0, //
-    0xB0, 4, 0, 0, 1, 0, 0, 0, //
-    0xB0, 4, 0, 0, 1, 0, 0, 0, //
-];
+/// The path of the only plate of `TWO_PAGES` and `ONE_ROW`.
+pub const PATH: &str = "OUT/OSLO/E1-A-001-K.tif";
+
+/// The plate of `TWO_PAGES`: 16 by 2 pixels. Row 0 is at offset 8 and row 1 at offset 11. They end at 14,
+/// where the directory begins. The plate has 14 + 166 bytes.
+pub const TWO_PAGES_PLATE: Plate<'static> = Plate {
+    path: PATH,
+    sides: Sides::SixteenByTwo,
+    rows: &[1, 0xAB, 0, 1, 0x13, 0],
+};
 
 /// The same pages with one row.
-pub const ONE_ROW: &str =
-    r#"{"plan":1,"edition":"E1","dpi":1200,"page":[8,1],"screens":{"K":"bayer4"},
-"pages":[{"name":"w","inks":"K","layers":[]},
-{"name":"p","inks":"K","layers":[{"kind":"contone","file":"a.tif","scale":2}]}],
-"sections":[{"name":"A","pages":["w","p"]}],"sites":[{"name":"OSLO"}]}"#;
+pub const ONE_ROW: SmallPlan<'static> = SmallPlan {
+    height: "1",
+    ..TWO_PAGES
+};
 
-/// Its plate: 16 by 1 pixels. The row AB 00 is packed to the bytes 8 to 10. Byte 11 is a pad byte, and the
+/// Its plate: 16 by 1 pixels. The row is packed to the bytes 8 to 10. Byte 11 is a pad byte, and the
 /// directory begins at 12.
-pub const ONE_ROW_PLATE: [u8; 178] = [
-    0x49, 0x49, 0x2A, 0, 12, 0, 0, 0, //
-    1, 0xAB, 0, //
-    0, //
-    0x0C, 0, //
-    0x00, 1, 4, 0, 1, 0, 0, 0, 16, 0, 0, 0, //
-    0x01, 1, 4, 0, 1, 0, 0, 0, 1, 0, 0, 0, //
-    0x02, 1, 3, 0, 1, 0, 0, 0, 1, 0, 0, 0, //
-    0x03, 1, 3, 0, 1, 0, 0, 0, 5, 0x80, 0, 0, //
-    0x06, 1, 3, 0, 1, 0, 0, 0, 0, 0, 0, 0, //
-    0x11, 1, 4, 0, 1, 0, 0, 0, 8, 0, 0, 0, //
-    0x15, 1, 3, 0, 1, 0, 0, 0, 1, 0, 0, 0, //
-    0x16, 1, 4, 0, 1, 0, 0, 0, 0, 0x10, 0, 0, //
-    0x17, 1, 4, 0, 1, 0, 0, 0, 3, 0, 0, 0, //
-    0x1A, 1, 5, 0, 1, 0, 0, 0, 162, 0, 0, 0, //
-    0x1B, 1, 5, 0, 1, 0, 0, 0, 170, 0, 0, 0, //
-    0x28, 1, 3, 0, 1, 0, 0, 0, 2, 0, 0, 0, //
-    0, 0, 0, 0, //
-    0xB0, 4, 0, 0, 1, 0, 0, 0, //
-    0xB0, 4, 0, 0, 1, 0, 0, 0, //
-];
+pub const ONE_ROW_PLATE: Plate<'static> = Plate {
+    path: PATH,
+    sides: Sides::SixteenByOne,
+    rows: &[1, 0xAB, 0, 0],
+};
 
 /// Two empty pages in four inks, for two sites.
 pub const FOUR_INKS: &str = r#"{"plan":1,"edition":"E1","dpi":1200,"page":[8,2],
 "pages":[{"name":"w","inks":"CMYK","layers":[]}],
 "sections":[{"name":"A","pages":["w","w"]}],"sites":[{"name":"OSLO"},{"name":"BERGEN"}]}"#;
 
-/// The plate of an empty pair: 16 by 2 pixels, rows 00 00.
-pub const EMPTY_PLATE: [u8; 180] = [
-    0x49, 0x49, 0x2A, 0, 14, 0, 0, 0, //
-    1, 0, 0, 1, 0, 0, //
-    0x0C, 0, //
-    0x00, 1, 4, 0, 1, 0, 0, 0, 16, 0, 0, 0, //
-    0x01, 1, 4, 0, 1, 0, 0, 0, 2, 0, 0, 0, //
-    0x02, 1, 3, 0, 1, 0, 0, 0, 1, 0, 0, 0, //
-    0x03, 1, 3, 0, 1, 0, 0, 0, 5, 0x80, 0, 0, //
-    0x06, 1, 3, 0, 1, 0, 0, 0, 0, 0, 0, 0, //
-    0x11, 1, 4, 0, 1, 0, 0, 0, 8, 0, 0, 0, //
-    0x15, 1, 3, 0, 1, 0, 0, 0, 1, 0, 0, 0, //
-    0x16, 1, 4, 0, 1, 0, 0, 0, 0, 0x10, 0, 0, //
-    0x17, 1, 4, 0, 1, 0, 0, 0, 6, 0, 0, 0, //
-    0x1A, 1, 5, 0, 1, 0, 0, 0, 164, 0, 0, 0, //
-    0x1B, 1, 5, 0, 1, 0, 0, 0, 172, 0, 0, 0, //
-    0x28, 1, 3, 0, 1, 0, 0, 0, 2, 0, 0, 0, //
-    0, 0, 0, 0, //
-    0xB0, 4, 0, 0, 1, 0, 0, 0, //
-    0xB0, 4, 0, 0, 1, 0, 0, 0, //
-];
+/// The plate of an empty pair, at no path.
+pub const EMPTY_PLATE: Plate<'static> = Plate {
+    path: "",
+    sides: Sides::SixteenByTwo,
+    rows: &[1, 0, 0, 1, 0, 0],
+};
 
-/// The plate of the pair whose right page is the image: rows 00 AB and 00 13.
-pub const RIGHT_PLATE: [u8; 180] = [
-    0x49, 0x49, 0x2A, 0, 14, 0, 0, 0, //
-    1, 0, 0xAB, 1, 0, 0x13, //
-    0x0C, 0, //
-    0x00, 1, 4, 0, 1, 0, 0, 0, 16, 0, 0, 0, //
-    0x01, 1, 4, 0, 1, 0, 0, 0, 2, 0, 0, 0, //
-    0x02, 1, 3, 0, 1, 0, 0, 0, 1, 0, 0, 0, //
-    0x03, 1, 3, 0, 1, 0, 0, 0, 5, 0x80, 0, 0, //
-    0x06, 1, 3, 0, 1, 0, 0, 0, 0, 0, 0, 0, //
-    0x11, 1, 4, 0, 1, 0, 0, 0, 8, 0, 0, 0, //
-    0x15, 1, 3, 0, 1, 0, 0, 0, 1, 0, 0, 0, //
-    0x16, 1, 4, 0, 1, 0, 0, 0, 0, 0x10, 0, 0, //
-    0x17, 1, 4, 0, 1, 0, 0, 0, 6, 0, 0, 0, //
-    0x1A, 1, 5, 0, 1, 0, 0, 0, 164, 0, 0, 0, //
-    0x1B, 1, 5, 0, 1, 0, 0, 0, 172, 0, 0, 0, //
-    0x28, 1, 3, 0, 1, 0, 0, 0, 2, 0, 0, 0, //
-    0, 0, 0, 0, //
-    0xB0, 4, 0, 0, 1, 0, 0, 0, //
-    0xB0, 4, 0, 0, 1, 0, 0, 0, //
+/// The plates of `ZONED`: two pairs at two sites, which share the first pair.
+pub const GROUPS: [Plate<'static>; 4] = [
+    Plate {
+        path: "OUT/OSLO/E1-A-001-K.tif",
+        ..EMPTY_PLATE
+    },
+    Plate {
+        path: "OUT/BERGEN/E1-A-001-K.tif",
+        ..EMPTY_PLATE
+    },
+    Plate {
+        path: "OUT/OSLO/E1-A-002-K.tif",
+        ..EMPTY_PLATE
+    },
+    Plate {
+        path: "OUT/BERGEN/E1-A-002-K.tif",
+        sides: Sides::SixteenByTwo,
+        rows: &[1, 0, 0xAB, 1, 0, 0x13],
+    },
 ];

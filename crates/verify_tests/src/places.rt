@@ -1,47 +1,31 @@
 // One plate: where it differs, and in which row.
-use crate::files::{ONE_ROW, ONE_ROW_PLATE, TWO_PAGES_PLATE};
-use crate::room::{CALM, Case, VERIFY, check, does};
+use crate::files::{ONE_ROW, ONE_ROW_PLATE, PATH, TWO_PAGES_PLATE};
+use crate::room::{check, finds};
 use std::process::Abort;
 use std::thread::Threads;
 use std::time::Clock;
-use test_room::{Held, Right, TWO_PAGES};
+use test_room::{Held, Plate, SmallPlan, TWO_PAGES};
 
-const PATH: &str = "OUT/OSLO/E1-A-001-K.tif";
+// What is in the place of a plate, the status, and the text.
+type Row<'a> = (Held<'a>, u8, &'a str);
 
-// Whether `verify` on the only plate of a plan, with this in its place, ends with this status and this text:
-// the line of the error output for status 5, the output otherwise. There are three loads: of the plan, the
-// image and the plate.
-fn finds<R: Abort + AllocGlobal + Threads + Clock + Sync>(
+// Checks each row on the only plate of a plan. There are three loads: of the plan, the image and the plate.
+fn check_rows<R: Abort + AllocGlobal + Threads + Clock + Sync>(
     rt: &R,
-    plan: &str,
-    plate: &[u8],
-    held: Held<'_>,
-    status: u8,
-    text: &str,
-) -> bool {
-    let (out, line) = if status == 5 { ("", text) } else { (text, "") };
-    let plates = [Right {
-        path: PATH,
-        bytes: plate,
-    }];
-    let wrong = [(PATH, held)];
-    let case = Case {
-        plan,
-        plates: &plates,
-        wrong: &wrong,
-        failing: CALM,
-        status,
-        out,
-        line,
-        loads: 3,
-    };
-    does(rt, &VERIFY, &case)
+    plan: &SmallPlan<'_>,
+    plate: Plate<'_>,
+    rows: &[Row<'_>],
+) {
+    for (n, (held, status, text)) in rows.iter().enumerate() {
+        let (plates, wrong) = ([plate], [(PATH, *held)]);
+        let holds = finds(rt, Held::Small(&*plan), &plates, &wrong, *status, text, 3);
+        check(rt, n, holds);
+    }
 }
 
-// What is in the place of the plate of two rows, the status and the text. The rows are the bytes 8 to 10 and
-// 11 to 13; the bytes before and after belong to no row. A truncated plate differs in the row that the first
-// missing byte belongs to.
-const TWO_ROWS: [(Held<'static>, u8, &str); 15] = [
+// The plate of two rows. They are the bytes 8 to 10 and 11 to 13; the bytes before and after belong to no
+// row. A truncated plate differs in the row that the first missing byte belongs to.
+const TWO_ROWS: [Row<'static>; 15] = [
     (Held::Right, 0, "same plates 1 sites 1\n"),
     (
         Held::Missing,
@@ -113,14 +97,11 @@ const TWO_ROWS: [(Held<'static>, u8, &str); 15] = [
 
 #[test]
 fn finds_the_first_byte_and_its_row(rt: HostRuntime) {
-    for (n, (held, status, text)) in TWO_ROWS.iter().enumerate() {
-        let holds = finds(&rt, TWO_PAGES, &TWO_PAGES_PLATE, *held, *status, text);
-        check(&rt, n, holds);
-    }
+    check_rows(&rt, &TWO_PAGES, TWO_PAGES_PLATE, &TWO_ROWS);
 }
 
 // The row of the plate of one row is the bytes 8 to 10. A pad byte follows, then the directory.
-const PADDED: [(Held<'static>, u8, &str); 5] = [
+const PADDED: [Row<'static>; 5] = [
     (Held::Right, 0, "same plates 1 sites 1\n"),
     (
         Held::Turned(10),
@@ -146,11 +127,5 @@ const PADDED: [(Held<'static>, u8, &str); 5] = [
 
 #[test]
 fn a_pad_byte_is_in_no_row(rt: HostRuntime) {
-    for (n, (held, status, text)) in PADDED.iter().enumerate() {
-        check(
-            &rt,
-            n,
-            finds(&rt, ONE_ROW, &ONE_ROW_PLATE, *held, *status, text),
-        );
-    }
+    check_rows(&rt, &ONE_ROW, ONE_ROW_PLATE, &PADDED);
 }
