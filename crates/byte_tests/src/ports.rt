@@ -62,8 +62,8 @@ fn own_file(rt: &HostRuntime, name: &str) -> Result<PathBuf, Fail> {
     Ok(env::temp_dir(rt)?.join(rt.alloc(), name)?)
 }
 
-// Returns whether a file of these bytes, which are not short of three, compares with them, with a byte changed in
-// their last third, and with those before that byte.
+// Returns whether a file of these bytes, which are not short of three, compares with them, with a byte
+// changed in their last third, and with those before that byte.
 fn differs<S: Shelf>(rt: &HostRuntime, shelf: &mut S, path: &str, bytes: &[u8]) -> bool {
     let limit = bytes.len() as u64;
     let at = bytes.len() / 3 * 2;
