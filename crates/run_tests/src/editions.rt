@@ -1,11 +1,11 @@
 // Small editions: their plates byte for byte, and the rows that the racks of their sites took.
 use crate::files::{four_by_one, pixel, spot_line};
-use crate::room::{RUN, Want, runs};
+use crate::room::{RUN, Want, runs, runs_small};
 use ring_lanes::Source;
 use std::process::Abort;
 use std::thread::Threads;
 use std::time::Clock;
-use test_room::{CALM, Held, Plate, Sides, TWO_PAGES, ZONED};
+use test_room::{CALM, Plate, Sides, TWO_PAGES, ZONED};
 
 /// The report of a run of the two pages.
 pub const ONE_SITE: &str = "site OSLO finished plates 1 rows 2\ntotal rows 2 sites 1\n";
@@ -51,8 +51,7 @@ pub fn makes_two_pages<R: Abort + AllocGlobal + Threads + Clock + Sync>(
         plates: &[&[TWO_PAGES_PLATE]],
         taken: &[(source, &[0, 1])],
     };
-    let plan = Held::Small(&TWO_PAGES);
-    runs(rt, words, plan, [&four_by_one(rt), &[]], CALM, &want)
+    runs_small(rt, words, &TWO_PAGES, &four_by_one(rt), CALM, &want)
 }
 
 #[test]
@@ -126,7 +125,7 @@ total rows 6 sites 2
 #[test]
 fn runs_zones(rt: HostRuntime) {
     let file = four_by_one(&rt);
-    assert!(rt; runs(&rt, &RUN, Held::Small(&ZONED), [&file, &[]], CALM, &ZONES));
+    assert!(rt; runs_small(&rt, &RUN, &ZONED, &file, CALM, &ZONES));
 }
 
 const SPOT_PLATES: Want<'static> = Want {
@@ -151,16 +150,7 @@ const SPOT_PLATES: Want<'static> = Want {
 #[test]
 fn runs_a_spot(rt: HostRuntime) {
     let line = spot_line(&rt);
-    assert!(rt;
-        runs(
-            &rt,
-            &RUN,
-            Held::Plan(SPOT),
-            [&line, &[]],
-            CALM,
-            &SPOT_PLATES
-        )
-    );
+    assert!(rt; runs(&rt, &RUN, SPOT, [&line, &[]], CALM, &SPOT_PLATES));
 }
 
 const DIFFUSED_PLATE: Want<'static> = Want {
@@ -178,14 +168,5 @@ const DIFFUSED_PLATE: Want<'static> = Want {
 #[test]
 fn runs_a_diffused_screen(rt: HostRuntime) {
     let file = pixel(&rt, [0, 0, 0, 128]);
-    assert!(rt;
-        runs(
-            &rt,
-            &RUN,
-            Held::Plan(DIFFUSED),
-            [&file, &[]],
-            CALM,
-            &DIFFUSED_PLATE
-        )
-    );
+    assert!(rt; runs(&rt, &RUN, DIFFUSED, [&file, &[]], CALM, &DIFFUSED_PLATE));
 }

@@ -4,11 +4,11 @@ ghost use Rattle.tif_make.specs.Made.{HasRows};
 
 use crate::editions::{ONE_SITE, TWO_PAGES_PLATE};
 use crate::files::{four_by_one, image, patch};
-use crate::room::{RUN, Want, check, runs};
+use crate::room::{RUN, Want, check, runs, runs_small};
 use std::process::Abort;
 use std::thread::Threads;
 use std::time::Clock;
-use test_room::{CALM, FORM, Failing, Held, TWO_PAGES};
+use test_room::{CALM, FORM, Failing, TWO_PAGES, plan_text};
 use tif_make::{ImageForm, Kind};
 
 // Arguments of a run of one plate, with the least and the greatest ring size and patience.
@@ -36,8 +36,7 @@ fn check_words<R: Abort + AllocGlobal + Threads + Clock + Sync>(
     want: &Want<'_>,
 ) {
     for (n, words) in lines.iter().enumerate() {
-        let plan = Held::Small(&TWO_PAGES);
-        check(rt, n, runs(rt, words, plan, [file, &[]], CALM, want));
+        check(rt, n, runs_small(rt, words, &TWO_PAGES, file, CALM, want));
     }
 }
 
@@ -69,7 +68,7 @@ fn refuses_ring_and_patience(rt: HostRuntime) {
 // plates.
 fn ends<R: Abort + AllocGlobal + Threads + Clock + Sync>(
     rt: &R,
-    plan: Held<'_>,
+    plan: &str,
     files: [&[u8]; 2],
     failing: Failing,
     status: u8,
@@ -103,8 +102,7 @@ fn refuses_second<R: Abort + AllocGlobal + Threads + Clock + Sync>(
         note: Some(0),
         ..CALM
     };
-    let (plan, files) = (Held::Plan(LATER), [first, lzw]);
-    ends(rt, plan, files, CALM, 4, line) && ends(rt, plan, files, failing, 7, "")
+    ends(rt, LATER, [first, lzw], CALM, 4, line) && ends(rt, LATER, [first, lzw], failing, 7, "")
 }
 
 #[test]
@@ -126,8 +124,7 @@ fn refuses_layer<R: Abort + AllocGlobal + Threads + Clock + Sync>(
 "layers":[{"kind":"contone","file":"a.tif","#;
     let back = r#"}]}],"sections":[{"name":"A","pages":["w","w"]}],"sites":[{"name":"OSLO"}]}"#;
     let plan = format!(in rt.alloc(); "{front}{key}{back}").expect(rt, "memory");
-    let plan = Held::Plan(plan.as_str());
-    ends(rt, plan, [&four_by_one(rt), mask], CALM, 4, line)
+    ends(rt, plan.as_str(), [&four_by_one(rt), mask], CALM, 4, line)
 }
 
 #[test]
@@ -218,7 +215,7 @@ fn refuses_keys<R: Abort + AllocGlobal + Threads + Clock + Sync>(
 ) -> bool {
     let pages = r#""pages":[{"name":"w","inks":"K","layers":[]}],"#;
     let plan = format!(in rt.alloc(); "{head}{pages}{sections}{sites}").expect(rt, "memory");
-    ends(rt, Held::Plan(plan.as_str()), [&[], &[]], CALM, 3, line)
+    ends(rt, plan.as_str(), [&[], &[]], CALM, 3, line)
 }
 
 #[test]
@@ -231,9 +228,9 @@ fn refuses_a_plan(rt: HostRuntime) {
 #[test]
 fn refuses_what_is_no_plan(rt: HostRuntime) {
     let line = "plateroom: plan: not JSON\n";
-    assert!(rt; ends(&rt, Held::Plan("{"), [&[], &[]], CALM, 3, line));
+    assert!(rt; ends(&rt, "{", [&[], &[]], CALM, 3, line));
     let line = "plateroom: plan : kind\n";
-    assert!(rt; ends(&rt, Held::Plan("[]"), [&[], &[]], CALM, 3, line));
+    assert!(rt; ends(&rt, "[]", [&[], &[]], CALM, 3, line));
 }
 
 // The load at which the shelf fails, and the line.
@@ -248,8 +245,8 @@ fn misses<R: Abort + AllocGlobal + Threads + Clock + Sync>(rt: &R, load: u64, li
         shelf: Some(load),
         ..CALM
     };
-    let plan = Held::Small(&TWO_PAGES);
-    ends(rt, plan, [&four_by_one(rt), &[]], failing, 5, line)
+    let plan = plan_text(rt.alloc(), &TWO_PAGES).expect(rt, "memory");
+    ends(rt, plan.as_str(), [&four_by_one(rt), &[]], failing, 5, line)
 }
 
 #[test]
@@ -277,12 +274,11 @@ pub fn ends_unreported<R: Abort + AllocGlobal + Threads + Clock + Sync>(
         out: Some(0),
         ..CALM
     };
-    let plan = Held::Small(&TWO_PAGES);
-    runs(
+    runs_small(
         rt,
         words,
-        plan,
-        [&four_by_one(rt), &[]],
+        &TWO_PAGES,
+        &four_by_one(rt),
         failing,
         &UNREPORTED,
     )

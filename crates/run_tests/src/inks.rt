@@ -5,20 +5,19 @@ use crate::room::{RUN, Want, runs};
 use std::process::Abort;
 use std::thread::Threads;
 use std::time::Clock;
-use test_room::{CALM, Held, Plate, Sides};
+use test_room::{CALM, Plate, Sides};
 
 const FOUR: &str = "site OSLO finished plates 4 rows 4\ntotal rows 4 sites 1\n";
 
 const ONE: &str = "site OSLO finished plates 1 rows 1\ntotal rows 1 sites 1\n";
 
-// Whether a run of a plan with these keys has this report and makes these plates. Its left page has these
+// Whether a run of a plan with these keys has this result. Its left page has these
 // inks, the layer a.tif, and these layers above it. The files have one pixel each.
 fn makes<R: Abort + AllocGlobal + Threads + Clock + Sync>(
     rt: &R,
     [keys, inks, layers]: [&str; 3],
     [first, second]: [[u8; 4]; 2],
-    report: &str,
-    plates: &[&[Plate<'_>]],
+    want: &Want<'_>,
 ) -> bool {
     let plan = format!(in rt.alloc();
         r#"{{"plan":1,"edition":"E1","dpi":1200,"page":[2,1],{keys}
@@ -28,50 +27,50 @@ fn makes<R: Abort + AllocGlobal + Threads + Clock + Sync>(
 {{"kind":"contone","file":"a.tif","scale":2}}{layers}]}}]}}"#
     )
     .expect(rt, "memory");
-    let want = Want {
-        status: 0,
-        report,
-        line: "",
-        plates,
-        taken: &[],
-    };
     let first = pixel(rt, first);
     let second = pixel(rt, second);
-    let plan = Held::Plan(plan.as_str());
-    runs(rt, &RUN, plan, [&first, &second], CALM, &want)
-}
-
-// Returns the plate of a row of one byte at this path.
-fn plate<'a>(path: &'a str, rows: &'a [u8]) -> Plate<'a> {
-    Plate {
-        path,
-        sides: Sides::FourByOne,
-        rows,
-    }
+    runs(rt, &RUN, plan.as_str(), [&first, &second], CALM, want)
 }
 
 // Whether a run in four inks makes plates of these bytes: cyan, magenta, yellow and black.
-fn makes_four<R: Abort + AllocGlobal + Threads + Clock + Sync>(
+fn makes_four<'a, R: Abort + AllocGlobal + Threads + Clock + Sync>(
     rt: &R,
-    keys: &str,
-    layers: &str,
+    keys: &'a str,
+    layers: &'a str,
     files: [[u8; 4]; 2],
     dots: [u8; 4],
 ) -> bool {
-    let [c, m, y, k] = dots.map(|dots| [0, dots]);
-    let plates = [
-        plate("OUT/OSLO/E1-A-001-C.tif", &c),
-        plate("OUT/OSLO/E1-A-001-M.tif", &m),
-        plate("OUT/OSLO/E1-A-001-Y.tif", &y),
-        plate("OUT/OSLO/E1-A-001-K.tif", &k),
-    ];
-    makes(
-        rt,
-        [keys, "CMYK", layers],
-        files,
-        FOUR,
-        &[plates.as_slice()],
-    )
+    let [c, m, y, k] = dots;
+    let sides = Sides::FourByOne;
+    let want = Want {
+        status: 0,
+        report: FOUR,
+        line: "",
+        plates: &[&[
+            Plate {
+                path: "OUT/OSLO/E1-A-001-C.tif",
+                sides,
+                rows: &[0, c],
+            },
+            Plate {
+                path: "OUT/OSLO/E1-A-001-M.tif",
+                sides,
+                rows: &[0, m],
+            },
+            Plate {
+                path: "OUT/OSLO/E1-A-001-Y.tif",
+                sides,
+                rows: &[0, y],
+            },
+            Plate {
+                path: "OUT/OSLO/E1-A-001-K.tif",
+                sides,
+                rows: &[0, k],
+            },
+        ]],
+        taken: &[],
+    };
+    makes(rt, [keys, "CMYK", layers], files, &want)
 }
 
 // 255 in four inks under a limit of 612 becomes 119, 119, 119 and 255. A tile of 118 and 119 distinguishes
@@ -108,19 +107,22 @@ const KNOCKOUT: &str = r#",{"kind":"contone","file":"b.tif","scale":2,"paint":"k
 // The pixels of the two files: cyan, and black.
 const COLOURS: [[u8; 4]; 2] = [[100, 0, 0, 0], [0, 0, 0, 255]];
 
+const BLACK_ALONE: Want<'static> = Want {
+    status: 0,
+    report: ONE,
+    line: "",
+    plates: &[&[Plate {
+        path: "OUT/OSLO/E1-A-001-K.tif",
+        sides: Sides::FourByOne,
+        rows: &[0, 0xC0],
+    }]],
+    taken: &[],
+};
+
 // Black over cyan: overprint keeps the cyan, knockout removes it, and a page in black alone prints none.
 #[test]
 fn black_over_cyan(rt: HostRuntime) {
     assert!(rt; makes_four(&rt, BAYER, OVERPRINT, COLOURS, TWO_INKS));
     assert!(rt; makes_four(&rt, BAYER, KNOCKOUT, COLOURS, BLACK));
-    let plates = [plate("OUT/OSLO/E1-A-001-K.tif", &[0, 0xC0])];
-    assert!(rt;
-        makes(
-            &rt,
-            [BAYER, "K", OVERPRINT],
-            COLOURS,
-            ONE,
-            &[plates.as_slice()]
-        )
-    );
+    assert!(rt; makes(&rt, [BAYER, "K", OVERPRINT], COLOURS, &BLACK_ALONE));
 }

@@ -3,11 +3,11 @@ use crate::editions::{ONE_SITE, SPOT, makes_two_pages};
 use crate::faults::ends_unreported;
 use crate::files::{four_by_one, spot_line};
 use crate::leaving::EMPTY;
-use crate::room::{Want, check, runs};
+use crate::room::{Want, check, runs, runs_small};
 use std::process::Abort;
 use std::thread::Threads;
 use std::time::Clock;
-use test_room::{CALM, FOUR_PAGES, Failing, Held, TWO_PAGES};
+use test_room::{CALM, FOUR_PAGES, Failing, TWO_PAGES, plan_text};
 
 // Whether a run of the two pages with these arguments makes their plate and reports this line of counts. The
 // first site takes its rows from a ring of this many places.
@@ -66,8 +66,7 @@ const REFUSED: Want<'static> = Want {
 fn refuses_keys(rt: HostRuntime) {
     let file = four_by_one(&rt);
     for (n, words) in BAD.iter().enumerate() {
-        let plan = Held::Small(&TWO_PAGES);
-        let holds = runs(&rt, words, plan, [&file, &[]], CALM, &REFUSED);
+        let holds = runs_small(&rt, words, &TWO_PAGES, &file, CALM, &REFUSED);
         check(&rt, n, holds);
     }
 }
@@ -106,7 +105,7 @@ keys 1 A-002-K 8
 // Whether a run with one key, of this plan for two sites, reports this where these calls of the racks fail.
 fn leaves<R: Abort + AllocGlobal + Threads + Clock + Sync>(
     rt: &R,
-    plan: Held<'_>,
+    plan: &str,
     racks: [Option<u64>; 2],
     report: &str,
 ) -> bool {
@@ -124,12 +123,9 @@ fn leaves<R: Abort + AllocGlobal + Threads + Clock + Sync>(
 
 #[test]
 fn counts_are_whole_where_sites_leave(rt: HostRuntime) {
+    let plan = plan_text(rt.alloc(), &FOUR_PAGES).expect(&rt, "memory");
     for (n, (racks, report)) in LEFT.iter().enumerate() {
-        check(
-            &rt,
-            n,
-            leaves(&rt, Held::Small(&FOUR_PAGES), *racks, report),
-        );
+        check(&rt, n, leaves(&rt, plan.as_str(), *racks, report));
     }
 }
 
@@ -142,7 +138,7 @@ keys 1 A-002-K 0
 
 #[test]
 fn counts_of_empty_pages(rt: HostRuntime) {
-    assert!(rt; leaves(&rt, Held::Plan(EMPTY), [None, Some(5)], BLANK));
+    assert!(rt; leaves(&rt, EMPTY, [None, Some(5)], BLANK));
 }
 
 const SPOT_KEYS: Want<'static> = Want {
@@ -161,16 +157,7 @@ keys 0 A-001-S 4 4 0 0
 fn counts_a_spot(rt: HostRuntime) {
     let line = spot_line(&rt);
     let words = ["keys", "plan.json", "FILES", "OUT", "4"];
-    assert!(rt;
-        runs(
-            &rt,
-            &words,
-            Held::Plan(SPOT),
-            [&line, &[]],
-            CALM,
-            &SPOT_KEYS
-        )
-    );
+    assert!(rt; runs(&rt, &words, SPOT, [&line, &[]], CALM, &SPOT_KEYS));
 }
 
 // The output takes the report and the counts in one call, once the plates are complete.

@@ -3,7 +3,7 @@ use crate::room::{RUN, Want, check, runs};
 use std::process::Abort;
 use std::thread::Threads;
 use std::time::Clock;
-use test_room::{CALM, Failing, Held, Plate};
+use test_room::{CALM, Failing, Plate};
 
 /// Four empty pages for two sites.
 pub const EMPTY: &str = r#"{"plan":1,"edition":"E1","dpi":1200,"page":[8,2],
@@ -38,7 +38,7 @@ fn ends<R: Abort + AllocGlobal + Threads + Clock + Sync>(
         taken: &[],
     };
     let failing = Failing { racks, ..CALM };
-    runs(rt, &RUN, Held::Plan(EMPTY), [&[], &[]], failing, &want)
+    runs(rt, &RUN, EMPTY, [&[], &[]], failing, &want)
 }
 
 fn leaves<R: Abort + AllocGlobal + Threads + Clock + Sync>(

@@ -8,7 +8,7 @@ use pr_rack::MemRack;
 use std::process::Abort;
 use std::thread::Threads;
 use std::time::Clock;
-use test_room::{CALM, Held};
+use test_room::CALM;
 use tif_make::{Compression, ImageForm, Kind, Order, Planar};
 
 const PLAN: &str = r#"{"plan":1,"edition":"E1","dpi":1200,"page":[800,1200],"margins":[32,24,32,24],
@@ -114,7 +114,7 @@ fn makes_all<'a, R: Abort + AllocGlobal + Threads + Clock + Sync>(
         plates: &[],
         taken: &[],
     };
-    let files = files_of(Held::Plan(PLAN), [first, second]);
+    let files = files_of(PLAN, first, second);
     match racks_of(rt, &RUN, &files, CALM, &want) {
         Some(racks) => are_whole(&racks),
         None => false,

@@ -4,7 +4,9 @@ use ring_lanes::Source;
 use std::process::Abort;
 use std::thread::Threads;
 use std::time::Clock;
-use test_room::{Desk, Ended, Failing, File, Held, Plate, have_plates, racks_after, took};
+use test_room::{
+    Desk, Ended, Failing, File, Held, Plate, SmallPlan, have_plates, plan_text, racks_after, took,
+};
 
 /// The default arguments of a run.
 pub const RUN: [&str; 4] = ["run", "plan.json", "FILES", "OUT"];
@@ -21,9 +23,9 @@ pub struct Want<'a> {
 }
 
 /// Returns the files of a plan that may name a.tif and b.tif.
-pub fn files_of<'a>(plan: Held<'a>, [first, second]: [&'a [u8]; 2]) -> [File<'a>; 3] {
+pub fn files_of<'a>(plan: &'a str, first: &'a [u8], second: &'a [u8]) -> [File<'a>; 3] {
     [
-        ("plan.json", plan),
+        ("plan.json", Held::Plan(plan)),
         ("FILES/a.tif", Held::Bytes(first)),
         ("FILES/b.tif", Held::Bytes(second)),
     ]
@@ -47,18 +49,33 @@ pub fn racks_of<R: Abort + AllocGlobal + Threads + Clock + Sync>(
 }
 
 /// Whether a run with these arguments has the expected result. Its plan may name the files a.tif and b.tif.
-pub fn runs<'a, R: Abort + AllocGlobal + Threads + Clock + Sync>(
+pub fn runs<R: Abort + AllocGlobal + Threads + Clock + Sync>(
     rt: &R,
     words: &[&str],
-    plan: Held<'a>,
-    files: [&'a [u8]; 2],
+    plan: &str,
+    files: [&[u8]; 2],
     failing: Failing,
     want: &Want<'_>,
 ) -> bool {
-    match racks_of(rt, words, &files_of(plan, files), failing, want) {
+    let [first, second] = files;
+    let files = files_of(&*plan, &*first, &*second);
+    match racks_of(rt, words, &files, failing, want) {
         Some(racks) => has_all(rt, &racks, want),
         None => false,
     }
+}
+
+/// The same for a plan of small pages.
+pub fn runs_small<R: Abort + AllocGlobal + Threads + Clock + Sync>(
+    rt: &R,
+    words: &[&str],
+    plan: &SmallPlan<'_>,
+    file: &[u8],
+    failing: Failing,
+    want: &Want<'_>,
+) -> bool {
+    let plan = plan_text(rt.alloc(), plan).expect(rt, "memory");
+    runs(rt, words, plan.as_str(), [file, &[]], failing, want)
 }
 
 // Whether racks have the expected plates and took the expected rows.

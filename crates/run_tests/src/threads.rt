@@ -13,7 +13,7 @@ use std::process::Abort;
 use std::sync::atomic::{AtomicU64, Ordering};
 use std::thread::Threads;
 use std::time::Clock;
-use test_room::{CALM, Desk, Ended, Held as Kept, RACKS, prints};
+use test_room::{CALM, Desk, Ended, RACKS, prints};
 
 /// What a rack does in one of its row calls.
 #[derive(Clone, Copy)]
@@ -243,7 +243,7 @@ fn reports<'c, R: Abort + AllocGlobal + Threads + Clock + Sync>(
     requires racks { 16 ≤ length racks.old }
     requires idle { AreIdle ⟦<Watched<'c> as Rack>⟧ racks.old }
 {
-    let files = files_of(Kept::Plan(order.plan), [&[], &[]]);
+    let files = files_of(order.plan, &[], &[]);
     let mut desk = Desk::new(rt.alloc(), &files, &[], &[], None);
     let ended = Ended {
         status: 0,
