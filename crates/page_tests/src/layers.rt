@@ -1,5 +1,5 @@
 // Small image files, layers of them, and the pages that these layers make.
-ghost use Rattle.std.specs.Prelude.{◌≡◌, ◌+◌, ◌-◌, ◌<◌, ◌≤◌, [], length};
+ghost use Rattle.std.specs.Prelude.{◌≡◌, ◌-◌, ◌<◌, ◌≤◌, [], All, length};
 ghost use Rattle.page_layers.specs.Inks.{HasWidth};
 ghost use Rattle.page_layers.specs.Layer.{IsLayer, shape_of};
 
@@ -126,33 +126,32 @@ pub fn assert_page<const W: usize, R: Abort + AllocGlobal>(
     height: u32,
     turns: &[&[Row<W>]],
 ) {
-    assert!(rt; W >= 1 && W <= 65_535 && height >= 1 && height <= 65_535);
-    let mut room = InkRow::new(rt.alloc(), W as u32).expect(rt, "memory");
     let image = contone(rt);
     let line = bilevel(rt);
-    assert_turns(rt, &image, &line, layers, height, &mut room, turns);
+    assert_turns(
+        rt,
+        layer(rt, image.as_slice(), line.as_slice(), &BEFORE),
+        layers_of(rt, image.as_slice(), line.as_slice(), layers),
+        height,
+        turns,
+    );
 }
 
 fn assert_turns<'a, const W: usize, R: Abort + AllocGlobal>(
     rt: &R,
-    image: &'a [u8],
-    line: &'a [u8],
-    layers: &[Laid],
+    before: Layer<'a>,
+    layers: Vec<Layer<'a>>,
     height: u32,
-    room: &mut InkRow,
     turns: &[&[Row<W>]],
 )
-    requires width { (1 ≤ W) × (W ≤ 65535) }
-    requires height { (1 ≤ height) × (height ≤ 65535) }
-    requires row { HasWidth room.old W }
+    requires { All IsLayer layers.items }
 {
-    let before = layer(rt, image, line, &BEFORE);
-    let mut page = used_page(rt, before, layers.len(), W as u32, height, room);
-    for n in 0..layers.len() {
-        put(rt, &mut page, layer(rt, image, line, &layers[n]));
-    }
+    assert!(rt; W >= 1 && W <= 65_535 && height >= 1 && height <= 65_535);
+    let mut room = InkRow::new(rt.alloc(), W as u32).expect(rt, "memory");
+    let mut page = used_page(rt, before, layers.len(), W as u32, height, &mut room);
+    put_all(&mut page, layers);
     for inks in &INKS {
-        assert_in_inks(rt, &mut page, room, height, turns, inks);
+        assert_in_inks(rt, &mut page, &mut room, height, turns, inks);
     }
 }
 
@@ -199,15 +198,17 @@ fn used_page<'a, R: Abort + AllocGlobal>(
     page
 }
 
-// Adds a layer on top of the others, after asserting that the page accepts it.
-fn put<'a>(rt: &impl Abort, page: &mut PageRows<'a>, layer: Layer<'a>)
+// Adds layers to a page that has none.
+fn put_all<'a>(page: &mut PageRows<'a>, layers: Vec<Layer<'a>>)
+    requires layers { All IsLayer layers.items }
     requires top { page.old.next ≡ 0 }
-    requires room { length page.old.layers < page.old.room }
-    ensures count { length page.new.layers ≡ length page.old.layers + 1 }
-    ensures same { page.new ≡ record page.old { layers = page.new.layers } }
+    requires none { page.old.layers ≡ [] }
+    requires room { length layers.items ≤ page.old.room }
+    ensures width { page.new.width ≡ page.old.width }
 {
-    assert_layer(rt, &layer);
-    page.put(layer);
+    for layer in layers {
+        page.put(layer);
+    }
 }
 
 fn assert_rows<const W: usize>(
@@ -268,6 +269,31 @@ fn assert_plane(rt: &impl Abort, room: &InkRow, inks: PageInks, ink: Ink, values
         Ink::S => inks.spot,
     };
     assert!(rt; !is_painted || room.plane(ink) == values);
+}
+
+// Makes layers of these files.
+fn layers_of<'a, R: Abort + AllocGlobal>(
+    rt: &R,
+    image: &'a [u8],
+    line: &'a [u8],
+    laid: &[Laid],
+) -> Vec<Layer<'a>>
+    ensures { All IsLayer result.items }
+{
+    let mut layers = Vec::new(rt.alloc());
+    for laid in laid {
+        put(rt, &mut layers, layer(rt, image, line, laid));
+    }
+    layers
+}
+
+// Adds a layer on top of the others, after asserting that a page accepts it.
+fn put<'a, R: Abort>(rt: &R, layers: &mut Vec<Layer<'a>>, layer: Layer<'a>)
+    requires { All IsLayer layers.old.items }
+    ensures { All IsLayer layers.new.items }
+{
+    assert_layer(rt, &layer);
+    layers.push(layer).expect(rt, "memory");
 }
 
 fn layer<'a, R: Abort>(rt: &R, image: &'a [u8], line: &'a [u8], laid: &Laid) -> Layer<'a> {

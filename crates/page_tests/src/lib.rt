@@ -4,8 +4,6 @@
 #[cfg(test)]
 mod blocks;
 #[cfg(test)]
-mod columns;
-#[cfg(test)]
 mod diffusion;
 #[cfg(test)]
 mod layers;

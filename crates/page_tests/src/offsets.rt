@@ -1,12 +1,13 @@
 // Masked linework from each first column and in each width around a block of 64 pixels, compared with a plain
 // loop.
-ghost use Rattle.std.specs.Prelude.{◌≡◌, ◌<◌, ◌≤◌, length};
+ghost use Rattle.std.specs.Prelude.{◌≡◌, ◌<◌, [], length};
+ghost use Rattle.page_layers.specs.Inks.{HasWidth};
 
-use crate::columns::{Shown, assert_columns};
-use page_layers::{Art, Crop, InkRow, Layer};
+use crate::layers::{assert_layer, linework};
+use page_layers::{Art, Crop, InkRow, Layer, PageRows};
 use pr_base::Ink;
 use std::process::Abort;
-use tif_image::{Bilevel, BilevelUse};
+use tif_image::BilevelUse;
 use tif_make::{Compression, ImageForm, Kind, Order, Planar, make_image};
 
 // A row of 200 pixels whose ones are marked.
@@ -49,63 +50,65 @@ fn rows_begin_and_end_at_any_column(rt: HostRuntime) {
     let line = file(&rt, &LINE);
     let mut mask = file(&rt, &MASK);
     mark_zeros(&rt, &mut mask);
-    let shown = Marked {
-        line: &line,
-        mask: &mask,
-    };
     for width in 1..131 {
-        assert_columns(&rt, &shown, width);
+        assert_columns(&rt, &line, &mask, width);
     }
 }
 
-// The row of black where the line is marked and the mask is too.
-#[derive(Drop)]
-struct Marked<'a> {
+// Asserts pages of this width one after the other, in the same buffers.
+fn assert_columns<R: Abort + AllocGlobal>(rt: &R, line: &[u8], mask: &[u8], width: u32) {
+    assert!(rt; width >= 1 && width <= 130);
+    let mut page = PageRows::open(rt.alloc(), 1, width, 1).expect(rt, "memory");
+    let mut room = InkRow::new(rt.alloc(), width).expect(rt, "memory");
+    for first in 0..64 {
+        assert_row(rt, line, mask, first, width, &mut page, &mut room);
+    }
+}
+
+// Leaves the page unchanged, without layers.
+fn assert_row<'a>(
+    rt: &impl Abort,
     line: &'a [u8],
     mask: &'a [u8],
-}
-
-impl<'a> Shown<'a> for Marked<'a> {
-    fn layer(&self, first: u32, width: u32) -> Option<Layer<'a>> {
-        Some(Layer {
-            art: Art::Line(
-                Bilevel::check(self.line, BilevelUse::Line).ok()?,
-                [0, 0, 0, 255, 0],
-            ),
-            mask: Some(Bilevel::check(self.mask, BilevelUse::Mask).ok()?),
-            x: 0,
-            y: 0,
-            scale: 1,
-            crop: Crop {
-                x: first,
-                y: 0,
-                width,
-                height: 1,
-            },
-            overprint: false,
-        })
-    }
-
-    fn has_inks(&self, room: &InkRow, first: u32, _width: u32) -> bool {
-        let values = room.plane(Ink::K);
-        if first > 64 || values.len() > 130 {
-            return false;
-        }
-        are_marked(values, first as usize)
-    }
-}
-
-fn are_marked(values: &[u8], first: usize) -> bool
-    requires first { first ≤ 64 }
-    requires width { length values.now ≤ 130 }
+    first: u32,
+    width: u32,
+    page: &mut PageRows<'a>,
+    room: &mut InkRow,
+)
+    requires none { page.old.layers ≡ [] }
+    requires place { 0 < page.old.room }
+    requires top { (page.old.next ≡ 0) × (0 < page.old.height) }
+    requires width { HasWidth room.old page.old.width }
+    ensures page { page.new ≡ page.old }
+    ensures width { HasWidth room.new page.old.width }
 {
+    let layer = Layer {
+        art: Art::Line(linework(rt, line, BilevelUse::Line), [0, 0, 0, 255, 0]),
+        mask: Some(linework(rt, mask, BilevelUse::Mask)),
+        x: 0,
+        y: 0,
+        scale: 1,
+        crop: Crop {
+            x: first,
+            y: 0,
+            width,
+            height: 1,
+        },
+        overprint: false,
+    };
+    assert_layer(rt, &layer);
+    page.put(layer);
+    page.next(room);
+    page.clear();
+    assert_marks(rt, room.plane(Ink::K), first as usize);
+}
+
+fn assert_marks(rt: &impl Abort, values: &[u8], first: usize) {
+    assert!(rt; first < 64 && values.len() <= 130);
     for x in 0..values.len() {
         let marked = bit(&LINE, first + x) && !bit(&MASK, first + x);
-        if values[x] != if marked { 255 } else { 0 } {
-            return false;
-        }
+        assert!(rt; values[x] == if marked { 255 } else { 0 });
     }
-    true
 }
 
 fn bit(row: &[u8; 25], x: usize) -> bool

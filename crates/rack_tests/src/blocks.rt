@@ -3,10 +3,12 @@ ghost use Rattle.std.specs.Prelude.{◌≡◌, true, OnOk, Some, slice_get};
 ghost use Rattle.tif_packbits.specs.Frame.{IsFrame};
 ghost use Rattle.pr_rack.specs.Rack.{none_begun};
 
-use crate::machine::{HEAD, Plates, assert_written};
+use crate::folder::{folder_of, paths_in};
+use crate::machine::{HEAD, OneRow};
 use pr_rack::{HostRack, Rack, RackFault};
-use ring_lanes::Held;
+use ring_lanes::{Deck, Held};
 use std::fs;
+use tif_packbits::frame_row;
 
 // The rows of a plate: a block ends within a row, and the rest does not fill a block.
 const ROWS: usize = 30_000;
@@ -81,17 +83,27 @@ fn are_rows(bytes: &[u8]) -> bool {
 
 #[test]
 fn long_files_are_whole(rt: HostRuntime) {
-    assert_written(&rt, "blocks", Plates::Long);
+    let folder = folder_of(&rt, "blocks").expect(&rt, "no folder");
+    let (first, second) = paths_in(&rt, folder.as_str()).expect(&rt, "no paths");
+    let whole = are_whole(&rt, first.as_str(), second.as_str());
+    fs::remove_dir_all(&rt, folder).expect(&rt, "folder");
+    assert!(rt; whole);
 }
 
-/// Builds both plates from a row. One is finished. All rows of the other, unfinished one are on disk once the
-/// rack is dropped.
-pub fn write_long(rt: &HostRuntime, held: &Held, first: &str, second: &str) -> bool
-    requires { IsFrame held.now.bytes }
-{
-    is_built(rt, held, first, second)
-        && has_plate(rt, first, &PLACE, &[0, 7])
-        && has_part(rt, second)
+// Builds both plates from the row of a deck. One is finished. All rows of the other, unfinished one are on
+// disk once the rack is dropped.
+fn are_whole(rt: &HostRuntime, first: &str, second: &str) -> bool {
+    let mut frame = [0u8; 5];
+    frame_row(&[0xAB, 0], &mut frame);
+    let deal = OneRow;
+    let Ok(mut deck) = Deck::open(rt.alloc(), &deal) else {
+        return false;
+    };
+    deck.put(&frame);
+    let held = deck.take();
+    let built = is_built(rt, &held, first, second);
+    deck.give(held);
+    built && has_plate(rt, first, &PLACE, &[0, 7]) && has_part(rt, second)
 }
 
 // Whether the partial file of the unfinished plate has its rows.

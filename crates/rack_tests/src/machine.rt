@@ -3,7 +3,6 @@ ghost use Rattle.std.specs.Prelude.{◌≡◌};
 ghost use Rattle.tif_packbits.specs.Frame.{IsFrame};
 ghost use Rattle.pr_rack.specs.Rack.{none_begun};
 
-use crate::blocks::write_long;
 use crate::folder::{folder_of, paths_in};
 use pr_base::Deal;
 use pr_rack::{HostRack, Rack, RackFault};
@@ -13,7 +12,7 @@ use tif_packbits::frame_row;
 
 /// One row of two bytes, as a frame of five. Its packing has three bytes.
 #[derive(Drop)]
-struct OneRow;
+pub struct OneRow;
 
 impl Deal for OneRow {
     ghost use Rattle.std.specs.Prelude.{[], ◌∷◌};
@@ -95,29 +94,15 @@ fn is_left(rt: &HostRuntime, held: &Held, path: &str) -> bool
 
 #[test]
 fn writes_files_of_the_machine(rt: HostRuntime) {
-    assert_written(&rt, "rack", Plates::Short);
-}
-
-/// Which plates a test writes.
-#[derive(Clone, Copy)]
-pub enum Plates {
-    /// Plates of one row and two.
-    Short,
-    /// Plates longer than the rack's write buffer.
-    Long,
-}
-
-/// Asserts that these plates are written in a folder of their own.
-pub fn assert_written(rt: &HostRuntime, test: &str, plates: Plates) {
-    let folder = folder_of(rt, test).expect(rt, "no folder");
-    let (first, second) = paths_in(rt, folder.as_str()).expect(rt, "no paths");
-    let written = write_row(rt, plates, first.as_str(), second.as_str());
-    fs::remove_dir_all(rt, folder).expect(rt, "folder");
+    let folder = folder_of(&rt, "rack").expect(&rt, "no folder");
+    let (first, second) = paths_in(&rt, folder.as_str()).expect(&rt, "no paths");
+    let written = write_row(&rt, first.as_str(), second.as_str());
+    fs::remove_dir_all(&rt, folder).expect(&rt, "folder");
     assert!(rt; written);
 }
 
-// Writes both plates from the row of a deck.
-fn write_row(rt: &HostRuntime, plates: Plates, first: &str, second: &str) -> bool {
+// Writes both files from the row of a deck.
+fn write_row(rt: &HostRuntime, first: &str, second: &str) -> bool {
     let mut frame = [0u8; 5];
     frame_row(&[0xAB, 0], &mut frame);
     let deal = OneRow;
@@ -126,10 +111,7 @@ fn write_row(rt: &HostRuntime, plates: Plates, first: &str, second: &str) -> boo
     };
     deck.put(&frame);
     let held = deck.take();
-    let written = match plates {
-        Plates::Short => write(rt, &held, first, second),
-        Plates::Long => write_long(rt, &held, first, second),
-    };
+    let written = write(rt, &held, first, second);
     deck.give(held);
     written
 }
