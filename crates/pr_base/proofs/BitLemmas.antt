@@ -35,6 +35,9 @@ pub byte_bit-clear_other : (n x y : ℕ) → x < 8 → y < 8 → y ≢ x → byt
 byte_bit-clear_other n x y x_within y_within other =
     ap (λ b. eqb b 1) (bit_at_clear_other w8 n (7 - x) (omega arith) (7 - y) (omega arith) (λ e. other (omega arith)))
 
+-- the pixels of a byte after one of them is set or cleared
+pub ruleset byte_bits = (byte_bit-set_same, byte_bit-set_other, byte_bit-clear_same, byte_bit-clear_other)
+
 -- writing a byte that differs in one pixel leaves every other pixel unchanged
 pub bit_at-set_others : (bits : List ℕ) (place byte : ℕ) → place < 8 * length bits → ((y : ℕ) → y < 8 → y ≢ place % 8 → byte_bit byte y ≡ byte_bit (get_or bits (place / 8) 0) y) → (k : ℕ) → k ≢ place → bit_at (slice_set bits (place / 8) byte) k ≡ bit_at bits k
 bit_at-set_others bits place byte within others k other =

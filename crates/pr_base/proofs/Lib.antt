@@ -1,7 +1,9 @@
 pub mod BitLemmas
 pub mod Bits
+pub mod Blocks
 pub mod Firsts
 pub mod Inks
 pub mod Parts
+pub mod Spans
 pub mod Streams
 pub mod Words

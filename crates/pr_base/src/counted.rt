@@ -74,13 +74,9 @@ impl<R: Read> Counted<R> {
         ensures count { self.new.faults ≡ count_unless (is_some result) self.old.faults }
         ensures faults_stay { self.old.faults ≤ self.new.faults }
     {
-        match self.stream.read(into) {
-            Ok(count) => Some(count),
-            Err(_) => {
-                self.faults = raised(self.faults);
-                None
-            }
-        }
+        let count = self.stream.read(into).ok();
+        self.counted(count.is_some());
+        count
     }
 }
 
