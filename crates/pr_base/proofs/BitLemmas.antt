@@ -65,6 +65,9 @@ SetsBits_more test from n old now new sets here elsewhere = record {
   behind = λ k above. elsewhere k (λ e. absurd (omega arith)) ∙ sets.behind k (omega arith);
 }
 
+-- a loop that writes a span pixel by pixel
+pub ruleset growing = (SetsBits_none, SetsBits_more)
+
 -- two adjacent spans joined
 pub SetsBits_join : (test : ℕ → Bool) (from n at m total : ℕ) (old now new : List ℕ) → at ≡ from + n → total ≡ n + m → SetsBits test from n old now → SetsBits (λ x. test (n + x)) at m now new → SetsBits test from total old new
 SetsBits_join test from n at m total old now new next whole first second = record {

@@ -1,15 +1,10 @@
--- Sixty-four comparisons as one 64-bit mask: its eight bytes hold the pixels in order, and are written to a
--- packed row.
-use Rattle.std.proofs.Common.{◌≡◌, ℕ, zero, suc, ◌+◌, ◌-◌, ◌*◌, ◌/◌, ◌%◌, ◌^◌, ◌<◌, ◌≤◌, Bool, true, false, cond, List, ◌++◌, length, take, map, nat_lt, eqb, get_or, refl, ap, sym, ◌∙◌, arith, w64}
-use Rattle.std.specs.Int.{byte_at, bytes_high_first, bytes_low_first, to_be_bytes, to_le_bytes}
-use Rattle.std.specs.List.{range_with_len}
-use Rattle.std.proofs.lemmas.List.FromFn.{get_or-map-range_with_len, length-map-range_with_len}
-use Rattle.std.proofs.lemmas.Simd.{bit_mask_l, mask_l-mod}
-use borrow.Rule.Slice.PartMut.{put_mid}
+-- Sixty-four comparisons of values with thresholds, made as one mask.
+use Rattle.std.proofs.Common.{◌≡◌, ℕ, ◌%◌, ◌^◌, ◌<◌, Bool, cond, List, ◌++◌, length, take, nat_lt, get_or, ap, ◌∙◌, w64}
+use Rattle.std.specs.Int.{to_le_bytes}
 use lib.Lanes.{mask_l, top}
-use Rattle.pr_base.specs.Bits.{bit_at, byte_bit, SetsBits}
-use Rattle.pr_base.proofs.Words.{byte_bit-number}
-use Rattle.pr_base.proofs.Parts.{loaded, part_above, part_below, part_here}
+use Rattle.pr_base.specs.Bits.{bit_at}
+use Rattle.pr_base.proofs.Blocks.{reversed_lanes, shown_by_mask, top_of_byte}
+use Rattle.pr_base.proofs.Parts.{loaded}
 use Rattle.scr_tile.specs.Tile.{tile_bit}
 
 -- the result of lane x of the comparison of two vectors, before the lanes of each byte are reversed
@@ -17,71 +12,12 @@ abbrev pub lane_test : List ℕ → List ℕ → ℕ → Bool
 lane_test values thresholds x =
     top 7 (cond (nat_lt (get_or (take 64 thresholds ++ take 64 thresholds) x 0) (get_or (take 64 values ++ take 64 values) x 0)) 255 0)
 
--- the lanes of the comparison of two vectors, with the lanes of each byte reversed
-abbrev pub lane_tests : List ℕ → List ℕ → List Bool
-lane_tests values thresholds = map (λ i. lane_test values thresholds (8 * (i / 8) + 7 - i % 8)) (range_with_len 0 64)
-
-top_of_mask : (b : Bool) → top 7 (cond b 255 0) ≡ b
-top_of_mask true = refl
-top_of_mask false = refl
-
-one_if : (b : Bool) → eqb (cond b 1 0) 1 ≡ b
-one_if true = refl
-one_if false = refl
-
 pub lane_test_is : (values thresholds : List ℕ) (x : ℕ) → length values ≡ 64 → length thresholds ≡ 64 → x < 64 → lane_test values thresholds x ≡ tile_bit (get_or values x 0) (get_or thresholds x 0)
 lane_test_is values thresholds x whole_values whole_thresholds within =
-    top_of_mask _ ∙ ap (λ t. nat_lt t (get_or (take 64 values ++ take 64 values) x 0)) (loaded 64 thresholds x whole_thresholds within)
+    top_of_byte _ ∙ ap (λ t. nat_lt t (get_or (take 64 values ++ take 64 values) x 0)) (loaded 64 thresholds x whole_thresholds within)
     ∙ ap (λ v. nat_lt (get_or thresholds x 0) v) (loaded 64 values x whole_values within)
 
--- a byte of a number in little-endian order is one of its bytes in big-endian order
-low_first : (i k n j : ℕ) → j < k → get_or (bytes_low_first i k n) j 0 ≡ byte_at (i + j) n
-low_first i zero n j within = absurd (omega arith)
-low_first i (suc k) n zero within = ap (λ m. byte_at m n) (omega arith)
-low_first i (suc k) n (suc j) within = low_first (suc i) k n j (omega arith) ∙ ap (λ m. byte_at m n) (omega arith)
-
-high_first : (k n j : ℕ) → j < k → get_or (bytes_high_first k n) j 0 ≡ byte_at (k - 1 - j) n
-high_first zero n j within = absurd (omega arith)
-high_first (suc k) n zero within = ap (λ i. byte_at i n) (omega arith)
-high_first (suc k) n (suc j) within = high_first k n j (omega arith) ∙ ap (λ i. byte_at i n) (omega arith)
-
-low_is_high : (n j : ℕ) → j < 8 → get_or (to_le_bytes w64 n) j 0 ≡ get_or (to_be_bytes w64 n) (7 - j) 0
-low_is_high n j within =
-    let place : 8 - 1 - (7 - j) ≡ 0 + j = omega arith in
-    low_first 0 8 n j within ∙ sym (high_first 8 n (7 - j) (omega arith) ∙ ap (λ i. byte_at i n) place)
-
 -- the eight bytes of the mask, in little-endian order, hold the pixels in order
-pub mask_shows : (values thresholds : List ℕ) (x : ℕ) → length values ≡ 64 → length thresholds ≡ 64 → x < 64 → bit_at (to_le_bytes w64 (mask_l (lane_tests values thresholds) % 2 ^ 64)) x ≡ tile_bit (get_or values x 0) (get_or thresholds x 0)
+pub mask_shows : (values thresholds : List ℕ) (x : ℕ) → length values ≡ 64 → length thresholds ≡ 64 → x < 64 → bit_at (to_le_bytes w64 (mask_l (reversed_lanes (lane_test values thresholds)) % 2 ^ 64)) x ≡ tile_bit (get_or values x 0) (get_or thresholds x 0)
 mask_shows values thresholds x whole_values whole_thresholds within =
-    let test = λ (i : ℕ). lane_test values thresholds (8 * (i / 8) + 7 - i % 8) in
-    let mask = mask_l (lane_tests values thresholds) in
-    let lane = 63 - (8 * (7 - x / 8) + x % 8) in
-    let back : 8 * (lane / 8) + 7 - lane % 8 ≡ x = omega arith in
-    ap (λ byte. byte_bit byte (x % 8)) (low_is_high (mask % 2 ^ 64) (x / 8) (omega arith))
-    ∙ byte_bit-number (mask % 2 ^ 64) (7 - x / 8) (x % 8) (omega arith) (omega arith)
-    ∙ ap (λ m. eqb (m / 2 ^ lane % 2) 1) (mask_l-mod (lane_tests values thresholds) 64 (omega (arith, length-map-range_with_len test 0 64)))
-    ∙ ap (λ b. eqb b 1) (bit_mask_l (lane_tests values thresholds) lane) ∙ one_if _
-    ∙ get_or-map-range_with_len test 0 64 lane lane false (omega arith) (omega arith)
-    ∙ ap (λ y. lane_test values thresholds y) back
-    ∙ lane_test_is values thresholds x whole_values whole_thresholds within
-
--- a pixel of a packed row, as a bit of its byte
-pub bit_at-place : (bytes : List ℕ) (j y : ℕ) → y < 8 → byte_bit (get_or bytes j 0) y ≡ bit_at bytes (8 * j + y)
-bit_at-place bytes j y within =
-    let byte : j ≡ (8 * j + y) / 8 = omega arith in
-    let column : y ≡ (8 * j + y) % 8 = omega arith in
-    ap (λ k. byte_bit (get_or bytes k 0) y) byte ∙ ap (λ k. byte_bit (get_or bytes ((8 * j + y) / 8) 0) k) column
-
--- the pixels of eight bytes that were written to a packed row
-pub SetsBits_block : (test : ℕ → Bool) (bits bytes : List ℕ) (first count : ℕ) → count ≡ 8 → first + 8 ≤ length bits → length bytes ≡ 8 → ((j y : ℕ) → j < 8 → y < 8 → byte_bit (get_or bytes j 0) y ≡ test (8 * j + y)) → SetsBits test (8 * first) 64 bits (put_mid first count bits bytes)
-SetsBits_block test bits bytes first count eight room whole shows = record {
-  inside = λ x below.
-      let byte : (8 * first + x) / 8 - first ≡ x / 8 = omega arith in
-      let column : (8 * first + x) % 8 ≡ x % 8 = omega arith in
-      let place : 8 * (x / 8) + x % 8 ≡ x = omega arith in
-      ap (λ b. byte_bit b ((8 * first + x) % 8)) (part_here first count bits bytes ((8 * first + x) / 8) (omega arith) (omega arith) (omega arith) (omega arith))
-      ∙ ap (λ j. byte_bit (get_or bytes j 0) ((8 * first + x) % 8)) byte ∙ ap (λ y. byte_bit (get_or bytes (x / 8) 0) y) column
-      ∙ shows (x / 8) (x % 8) (omega arith) (omega arith) ∙ ap test place;
-  before = λ k below. ap (λ b. byte_bit b (k % 8)) (part_below first count bits bytes (k / 8) (omega arith) (omega arith));
-  behind = λ k above. ap (λ b. byte_bit b (k % 8)) (part_above first count bits bytes (k / 8) (omega arith) (omega arith) (omega arith));
-}
+    shown_by_mask (lane_test values thresholds) x within ∙ lane_test_is values thresholds x whole_values whole_thresholds within

@@ -4,21 +4,19 @@ use Rattle.scr_tile.specs.Tile.{number_at}
 use Rattle.scr_tile.specs.declared.any_tile.AnyTile.{AnyTile}
 use Rattle.scr_tile.specs.declared.any_tile.AnyTile.TheVariants.{B2, B4, B8, B16, Own}
 
--- the width of a tile in pixels
-abbrev pub tile_width : AnyTile → ℕ
-tile_width (B2 rows) = 2
-tile_width (B4 rows) = 4
-tile_width (B8 rows) = 8
-tile_width (B16 rows) = 16
-tile_width (Own numbers) = numbers.width
+-- the sides of a tile in pixels: its width and its height
+abbrev pub tile_sides : AnyTile → ℕ × ℕ
+tile_sides (B2 rows) = (2, 2)
+tile_sides (B4 rows) = (4, 4)
+tile_sides (B8 rows) = (8, 8)
+tile_sides (B16 rows) = (16, 16)
+tile_sides (Own numbers) = (numbers.width, numbers.height)
 
--- the height of a tile in pixels
+abbrev pub tile_width : AnyTile → ℕ
+tile_width tile = (tile_sides tile).0
+
 abbrev pub tile_height : AnyTile → ℕ
-tile_height (B2 rows) = 2
-tile_height (B4 rows) = 4
-tile_height (B8 rows) = 8
-tile_height (B16 rows) = 16
-tile_height (Own numbers) = numbers.height
+tile_height tile = (tile_sides tile).1
 
 -- the threshold of the pixel in column x and row y, with the tile repeated edge to edge
 abbrev pub threshold_of : AnyTile → ℕ → ℕ → ℕ

@@ -6,6 +6,7 @@ ghost use Rattle.scr_tile.specs.Tile.{tile_bit};
 use pr_base::set_bit;
 
 /// Writes the pixels from `from` on: each is set where its value is above its threshold.
+#[tactic(auto, using(pr_base::proofs::BitLemmas::growing))]
 pub(crate) fn set_bits(thresholds: &[u8], values: &[u8], bits: &mut [u8], from: usize)
     requires thresholds { length values.now ≤ length thresholds.now }
     requires room { from + length values.now ≤ 8 * length bits.old }

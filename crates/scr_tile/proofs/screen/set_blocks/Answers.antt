@@ -1,10 +1,10 @@
 -- Each iteration writes the pixels of one more block and moves to the column of the next.
 use Rattle.std.proofs.Common.{◌≡◌, ℕ, ◌+◌, ◌*◌, ◌%◌, ◌<◌, ◌∙◌, length, ap, arith, get_or}
 use Rattle.std.proofs.lemmas.Nat.{mod_below}
-use Rattle.pr_base.specs.Bits.{byte_bit}
+use Rattle.pr_base.specs.Bits.{bit_at}
 use Rattle.scr_tile.specs.Tile.{tile_bit}
 use Rattle.pr_base.proofs.BitLemmas.{SetsBits_join}
-use Rattle.scr_tile.proofs.BlockLemmas.{SetsBits_block, bit_at-place}
+use Rattle.pr_base.proofs.Blocks.{SetsBits_block}
 use Rattle.scr_tile.proofs.RowLemmas.{step_within, step_past, bit_of_part}
 use Rattle.scr_tile.proofs.screen.set_blocks.Goals as goal
 use Rattle.scr_tile.proofs.screen.set_blocks.Goals.{then-column-width, else-column-width}
@@ -29,8 +29,7 @@ loop-k-preserved c =
       ],
       SetsBits_join test (8 * c.args.first) done (8 * byte) 64 (64 * (c.loop-k.k + 1)) _ _ _ (omega arith) (omega arith) c.loop-k.invariant.1
           (SetsBits_block (λ x. test (done + x)) c.loop-k.bits c.copy_from_slice.new.self byte _ (omega arith) (omega arith) (omega arith)
-          (λ j y in_block in_byte. ap (λ bytes. byte_bit (get_or bytes j 0) y) c.copy_from_slice.ensures.after
-          ∙ bit_at-place c.block_of-block.result j y in_byte
-          ∙ c.block_of-block.ensures (8 * j + y) (omega arith)
-          ∙ bit_of_part row c.args.repeated.now c.args.values.now 128 64 start done c.loop-k.column (8 * j + y) c.requires.repeated above here (omega arith) (omega arith))),
+          (λ x within. ap (λ bytes. bit_at bytes x) c.copy_from_slice.ensures.after
+          ∙ c.block_of-block.ensures x within
+          ∙ bit_of_part row c.args.repeated.now c.args.values.now 128 64 start done c.loop-k.column x c.requires.repeated above here (omega arith) within)),
     )

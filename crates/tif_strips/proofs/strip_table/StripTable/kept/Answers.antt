@@ -1,7 +1,0 @@
-use Rattle.std.proofs.Common.{refl}
-use Rattle.tif_strips.proofs.Tables.{kept_table}
-use Rattle.tif_strips.proofs.strip_table.StripTable.kept.Goals as goal
-
-pub invariant_of-result : goal.invariant_of-result
-invariant_of-result c =
-    kept_table (record { shape = c.args.shape; bytes = c.args.bytes.now }) c.args.extents.now _ c.args.marks.now c.requires.shape c.requires.extents c.requires.marks refl (λ i. refl)
