@@ -9,7 +9,7 @@ use Rattle.std.proofs.lemmas.Simd.{bit_mask_l, mask_l-mod, mask_l-lt}
 use lib.Lanes.{mask_l, top}
 use Rattle.scr_diffuse.specs.Diffusion.{prints}
 use Rattle.scr_diffuse.specs.Passes.{number_at}
-use Rattle.scr_diffuse.proofs.MaskLemmas.{one_if, top_of_word}
+use Rattle.pr_base.proofs.Blocks.{one_if, top_of_word}
 
 -- what lane x of a loaded vector holds, before it is reversed
 abbrev pub lane : List ℤ → ℕ → ℕ

@@ -10,7 +10,7 @@ use lib.Lanes.{zip2, top, sel_l, mask_l}
 use Rattle.scr_diffuse.specs.Block.{bit_of}
 use Rattle.scr_diffuse.specs.Diffusion.{error_of, prints}
 use Rattle.scr_diffuse.specs.Passes.{IsNumber, floor_16, number_at}
-use Rattle.scr_diffuse.proofs.MaskLemmas.{one_if, top_of_word}
+use Rattle.pr_base.proofs.Blocks.{one_if, top_of_word}
 use Rattle.scr_diffuse.proofs.NumberLemmas.{dot_is, number_small, shifted}
 
 -- numbers computed from pairs of bit patterns

@@ -4,7 +4,6 @@ pub mod ColumnLemmas
 pub mod DiffusionLemmas
 pub mod DotLemmas
 pub mod LaneLemmas
-pub mod MaskLemmas
 pub mod NumberLemmas
 pub mod RowLemmas
 mod Rows

@@ -5,7 +5,7 @@ use Rattle.std.proofs.lemmas.List.Edits.{get_or-between}
 use Rattle.pr_base.specs.Bits.{bit_at, SetsBits}
 use Rattle.scr_diffuse.specs.Block.{bit_of}
 use Rattle.pr_base.proofs.BitLemmas.{SetsBits_none, SetsBits_join}
-use Rattle.scr_diffuse.proofs.DotLemmas.{SetsBits_block}
+use Rattle.pr_base.proofs.Blocks.{SetsBits_block}
 use Rattle.scr_diffuse.proofs.dots.set_blocks.Goals as goal
 
 pub loop-k-init : goal.loop-k-init
