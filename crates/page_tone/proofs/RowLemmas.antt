@@ -41,14 +41,6 @@ limited_at-same limit x c m y k c' m' y' k' cyan magenta yellow black =
     ∙ ap (λ n. limited (get_or c' x 0) (get_or m' x 0) n (get_or k x 0) limit) yellow
     ∙ ap (λ n. limited (get_or c' x 0) (get_or m' x 0) (get_or y' x 0) n limit) black
 
-pub limited-none : (limit from : ℕ) (c m y k : List ℕ) → HasLimited limit from from c m y k c m y k
-limited-none limit from c m y k = record {
-  cyan_is = written-none _ from c;
-  magenta_is = written-none _ from m;
-  yellow_is = written-none _ from y;
-  black_is = written-none _ from k;
-}
-
 -- one more pixel has been limited
 pub limited-more : (limit from x : ℕ) (c m y k c' m' y' k' inks : List ℕ) → from ≤ x → x < length c' → x < length m' → x < length y' → x < length k' → HasLimited limit from x c m y k c' m' y' k' → inks ≡ limited_at limit c' m' y' k' x
     → HasLimited limit from (x + 1) c m y k (set c' x (get_or inks 0 0)) (set m' x (get_or inks 1 0)) (set y' x (get_or inks 2 0)) (set k' x (get_or inks 3 0))
@@ -84,24 +76,3 @@ limited-block limit block width to c m y k c' m' y' k' c2 m2 y2 k2 within is fir
     limited-join limit 0 (min (64 * block) width) (min (64 * (block + 1)) width) c m y k c' m' y' k' c2 m2 y2 k2 (omega arith) ends first
     (subst (λ n. HasLimited limit n (min (64 * (block + 1)) width) c' m' y' k' c2 m2 y2 k2) at_is
     (subst (λ n. HasLimited limit (64 * block) n c' m' y' k' c2 m2 y2 k2) to_is second))
-
--- pixels with no more ink than the limit are unchanged
-pub limited-kept : (limit from to : ℕ) (c m y k : List ℕ) → ((x : ℕ) → from ≤ x → x < to → get_or c x 0 + get_or m x 0 + get_or y x 0 + get_or k x 0 ≤ limit) → HasLimited limit from to c m y k c m y k
-limited-kept limit from to c m y k within =
-    let all : (x : ℕ) → from ≤ x → x < to → get_or c x 0 ∷ get_or m x 0 ∷ get_or y x 0 ∷ get_or k x 0 ∷ [] ≡ limited_at limit c m y k x =
-    λ x above less. sym (limited-free (get_or c x 0) (get_or m x 0) (get_or y x 0) (get_or k x 0) limit (within x above less)) in
-    record {
-      cyan_is = record { inside = λ x above less. ap (λ inks. get_or inks 0 0) (all x above less); before = λ x less. refl; behind = λ x above. refl };
-      magenta_is = record { inside = λ x above less. ap (λ inks. get_or inks 1 0) (all x above less); before = λ x less. refl; behind = λ x above. refl };
-      yellow_is = record { inside = λ x above less. ap (λ inks. get_or inks 2 0) (all x above less); before = λ x less. refl; behind = λ x above. refl };
-      black_is = record { inside = λ x above less. ap (λ inks. get_or inks 3 0) (all x above less); before = λ x less. refl; behind = λ x above. refl };
-    }
-
--- the whole row
-pub limited-all : (limit to : ℕ) (c m y k c' m' y' k' : List ℕ) → length c ≤ to → HasLimited limit 0 to c m y k c' m' y' k' → AreLimited limit c m y k c' m' y' k'
-limited-all limit to c m y k c' m' y' k' whole so = record {
-  cyan_is = λ x less. so.cyan_is.inside x (omega arith) (omega arith);
-  magenta_is = λ x less. so.magenta_is.inside x (omega arith) (omega arith);
-  yellow_is = λ x less. so.yellow_is.inside x (omega arith) (omega arith);
-  black_is = λ x less. so.black_is.inside x (omega arith) (omega arith);
-}

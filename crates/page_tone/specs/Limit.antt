@@ -15,27 +15,28 @@ limited c m y k limit =
     let colours = c + m + y in
     share c rest colours ∷ share m rest colours ∷ share y rest colours ∷ black ∷ [])
 
--- the values of four planes under a limit
-pub record AreLimited (limit : ℕ) (c m y k cyan magenta yellow black : List ℕ) : Type 0 where
-  pub cyan_is : (x : ℕ) → x < length c
-      → slice_index cyan x ≡ slice_index (limited (slice_index c x) (slice_index m x) (slice_index y x)
-      (slice_index k x) limit) 0
-  pub magenta_is : (x : ℕ) → x < length c
-      → slice_index magenta x ≡ slice_index (limited (slice_index c x) (slice_index m x) (slice_index y x)
-      (slice_index k x) limit) 1
-  pub yellow_is : (x : ℕ) → x < length c
-      → slice_index yellow x ≡ slice_index (limited (slice_index c x) (slice_index m x) (slice_index y x)
-      (slice_index k x) limit) 2
-  pub black_is : (x : ℕ) → x < length c
-      → slice_index black x ≡ slice_index (limited (slice_index c x) (slice_index m x) (slice_index y x)
-      (slice_index k x) limit) 3
-
--- ---- a part of a row
-
 -- the inks of a pixel of four planes under a limit
 abbrev pub limited_at : ℕ → List ℕ → List ℕ → List ℕ → List ℕ → ℕ → List ℕ
 limited_at limit c m y k x =
     limited (slice_index c x) (slice_index m x) (slice_index y x) (slice_index k x) limit
+
+-- the values of four planes under a limit
+pub record AreLimited (limit : ℕ) (c m y k cyan magenta yellow black : List ℕ) : Type 0 where
+  pub cyan_is : (x : ℕ) → x < length c → slice_index cyan x ≡ slice_index (limited_at limit c m y k x) 0
+  pub magenta_is : (x : ℕ) → x < length c → slice_index magenta x ≡ slice_index (limited_at limit c m y k x) 1
+  pub yellow_is : (x : ℕ) → x < length c → slice_index yellow x ≡ slice_index (limited_at limit c m y k x) 2
+  pub black_is : (x : ℕ) → x < length c → slice_index black x ≡ slice_index (limited_at limit c m y k x) 3
+
+-- ---- a part of a row
+
+-- an ink limit, and a part of four planes of one width, from column `from` to `to`, exclusive
+pub record MayLimit (limit from to : ℕ) (c m y k : List ℕ) : Type 0 where
+  pub most : limit ≤ 1020
+  pub order : from ≤ to
+  pub within : to ≤ length c
+  pub magenta_width : length m ≡ length c
+  pub yellow_width : length y ≡ length c
+  pub black_width : length k ≡ length c
 
 -- the values from column `from` to `to`, exclusive, are those of a function; all others are unchanged
 pub record IsWritten (value : ℕ → ℕ) (from to : ℕ) (old new : List ℕ) : Type 0 where

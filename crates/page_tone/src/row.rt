@@ -1,6 +1,6 @@
 // The ink limit of each pixel of a row.
 ghost use Rattle.std.specs.Prelude.{◌≡◌, ℕ, ◌+◌, ◌<◌, ◌≤◌, length, slice_index};
-ghost use Rattle.page_tone.specs.Limit.{AreLimited, HasLimited};
+ghost use Rattle.page_tone.specs.Limit.{AreLimited, HasLimited, MayLimit};
 
 use crate::limit::limit_inks;
 
@@ -42,17 +42,20 @@ fn limit_block(
     yellow: &mut [u8],
     black: &mut [u8],
 )
-    requires limit { limit ≤ 1020 }
-    requires from { from ≤ to }
-    requires to { to ≤ length cyan.old }
-    requires magenta { length magenta.old ≡ length cyan.old }
-    requires yellow { length yellow.old ≡ length cyan.old }
-    requires black { length black.old ≡ length cyan.old }
+    requires { MayLimit limit from to cyan.old magenta.old yellow.old black.old }
     ensures { HasLimited limit from to cyan.old magenta.old yellow.old black.old
         cyan.new magenta.new yellow.new black.new }
 {
-    if most_ink(from, to, cyan, magenta, yellow, black) > limit {
-        limit_pixels(limit, from, to, cyan, magenta, yellow, black);
+    if most_ink(from, to, cyan, magenta, yellow, black) <= limit {
+        return;
+    }
+    for x in from..to {
+        let inks = [cyan[x], magenta[x], yellow[x], black[x]];
+        let [c, m, y, k] = limit_inks(inks, limit);
+        cyan[x] = c;
+        magenta[x] = m;
+        yellow[x] = y;
+        black[x] = k;
     }
 }
 
@@ -71,33 +74,4 @@ fn most_ink(from: usize, to: usize, cyan: &[u8], magenta: &[u8], yellow: &[u8], 
         most = most.max(cyan[x] as u16 + magenta[x] as u16 + yellow[x] as u16 + black[x] as u16);
     }
     most
-}
-
-/// Limits the ink of the pixels from column `from` to `to`, exclusive.
-fn limit_pixels(
-    limit: u16,
-    from: usize,
-    to: usize,
-    cyan: &mut [u8],
-    magenta: &mut [u8],
-    yellow: &mut [u8],
-    black: &mut [u8],
-)
-    requires limit { limit ≤ 1020 }
-    requires from { from ≤ to }
-    requires to { to ≤ length cyan.old }
-    requires magenta { length magenta.old ≡ length cyan.old }
-    requires yellow { length yellow.old ≡ length cyan.old }
-    requires black { length black.old ≡ length cyan.old }
-    ensures { HasLimited limit from to cyan.old magenta.old yellow.old black.old
-        cyan.new magenta.new yellow.new black.new }
-{
-    for x in from..to {
-        let inks = [cyan[x], magenta[x], yellow[x], black[x]];
-        let [c, m, y, k] = limit_inks(inks, limit);
-        cyan[x] = c;
-        magenta[x] = m;
-        yellow[x] = y;
-        black[x] = k;
-    }
 }
