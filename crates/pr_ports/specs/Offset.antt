@@ -10,3 +10,8 @@ abbrev pub IsReadAt : Option (List ℕ) → ℕ → List ℕ → ℕ → Type 0
 IsReadAt whole offset into count =
     HasFront whole offset into count
     × IfSome whole (λ all. count ≡ 0 → 0 < length into → length all ≤ offset)
+
+-- a share of a file's bytes, from the offset on: the first count of bytes are the file's
+pub record IsShare (whole : Option (List ℕ)) (offset : ℕ) (bytes : List ℕ) (count : ℕ) : Type 0 where
+  pub within : count ≤ length bytes
+  pub front : HasFront whole offset bytes count

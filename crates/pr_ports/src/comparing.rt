@@ -5,7 +5,7 @@ ghost use Rattle.std.specs.Prelude.{option_map};
 ghost use Rattle.std.specs.Thread.{IsSync};
 ghost use Rattle.pr_base.specs.Count.{count_unless};
 ghost use Rattle.pr_ports.specs.Difference.{difference_of};
-ghost use Rattle.pr_ports.specs.Offset.{HasFront};
+ghost use Rattle.pr_ports.specs.Offset.{HasFront, IsShare};
 ghost use Rattle.pr_ports.specs.Shelf.{has_failed, IfTooLong};
 
 use crate::host_shelf::read_on;
@@ -81,14 +81,12 @@ fn compare_wide<T: Threads + Sync, F: OffsetRead + Sync>(
         &mut || -> usize
             requires sync { IsSync T.row × IsSync F.row }
             requires fits { offset + length front.now < 2 ^ 64 }
-            ensures { (result ≤ length front.entry.now)
-                × HasFront (F.whole file.entry.now) offset front.entry.now result }
+            ensures { IsShare (F.whole file.entry.now) offset front.entry.now result }
         { compare_wide(rt, file, offset, front, one_room) },
         &mut || -> usize
             requires sync { IsSync T.row × IsSync F.row }
             requires fits { middle + length back.now < 2 ^ 64 }
-            ensures { (result ≤ length back.entry.now)
-                × HasFront (F.whole file.entry.now) middle back.entry.now result }
+            ensures { IsShare (F.whole file.entry.now) middle back.entry.now result }
         { compare_wide(rt, file, middle, back, other_room) },
     );
     if one < half { one } else { half + other }

@@ -1,7 +1,7 @@
 // A file's bytes read by several threads, each into its own share of a buffer.
 ghost use Rattle.std.specs.Prelude.{◌≡◌, ◌+◌, ◌*◌, ◌^◌, ◌<◌, ◌≤◌, IfSome, drop, length, take};
 ghost use Rattle.std.specs.Thread.{IsSync};
-ghost use Rattle.pr_ports.specs.Offset.{HasFront, IsReadAt};
+ghost use Rattle.pr_ports.specs.Offset.{HasFront, IsReadAt, IsShare};
 
 use crate::offset::OffsetRead;
 use std::thread::{Threads, join_mut};
@@ -64,14 +64,12 @@ pub(crate) fn fill_wide<T: Threads + Sync, F: OffsetRead + Sync>(
         &mut || -> usize
             requires sync { IsSync T.row × IsSync F.row }
             requires fits { offset + length front.now < 2 ^ 64 }
-            ensures { (result ≤ length front.exit.now)
-                × HasFront (F.whole file.entry.now) offset front.exit.now result }
+            ensures { IsShare (F.whole file.entry.now) offset front.exit.now result }
         { fill_wide(rt, fewer, file, offset, front) },
         &mut || -> usize
             requires sync { IsSync T.row × IsSync F.row }
             requires fits { middle + length back.now < 2 ^ 64 }
-            ensures { (result ≤ length back.exit.now)
-                × HasFront (F.whole file.entry.now) middle back.exit.now result }
+            ensures { IsShare (F.whole file.entry.now) middle back.exit.now result }
         { fill_wide(rt, more, file, middle, back) },
     );
     if one < half { one } else { half + other }
