@@ -45,6 +45,15 @@ pub record LaysSpan (painting : Painting) (from : ℕ) (paint admitted old new :
   pub before : (x : ℕ) → x < from → slice_index new x ≡ slice_index old x
   pub behind : (x : ℕ) → from + length admitted ≤ x → slice_index new x ≡ slice_index old x
 
+-- the rows of a page with the paint of a layer over the old ones, in each painted ink
+pub record LaysRow (inks : PageInks) (painting : Painting) (from : ℕ) (paint : Planes) (admitted : List ℕ)
+    (old new : Planes) : Type 0 where
+  pub cyan : LaysSpan (painted_as inks.colour painting) from paint.cyan admitted old.cyan new.cyan
+  pub magenta : LaysSpan (painted_as inks.colour painting) from paint.magenta admitted old.magenta new.magenta
+  pub yellow : LaysSpan (painted_as inks.colour painting) from paint.yellow admitted old.yellow new.yellow
+  pub black : LaysSpan painting from paint.black admitted old.black new.black
+  pub spot : LaysSpan (painted_as inks.spot painting) from paint.spot admitted old.spot new.spot
+
 -- if an ink is painted, its row is 0 before one column and from another one on
 pub record IsClearBeside (is_painted : Bool) (from to : ℕ) (row : List ℕ) : Type 0 where
   pub before : IsTrue is_painted → (x : ℕ) → x < from → slice_index row x ≡ 0

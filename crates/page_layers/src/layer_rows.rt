@@ -4,8 +4,8 @@ ghost use Rattle.tif_strips.specs.Strips.{row_length};
 ghost use Rattle.page_layers.specs.Inks.{HasWidth, inks_at, painted_inks};
 ghost use Rattle.page_layers.specs.Layer.{IsLayer, paint_at, shape_of};
 ghost use Rattle.page_layers.specs.Reader.{Holds, IsOf};
-ghost use Rattle.page_layers.specs.Rows.{IsPaint, LaysSpan, bare_art, fixed_of, painting_of, span_of};
-ghost use Rattle.page_layers.specs.Rows.{painted_as, with_fixed};
+ghost use Rattle.page_layers.specs.Rows.{IsPaint, LaysRow, bare_art, fixed_of, painting_of, span_of};
+ghost use Rattle.page_layers.specs.Rows.{with_fixed};
 
 use crate::admit::{admit_row, is_bare};
 use crate::lay::Painting;
@@ -321,15 +321,7 @@ fn lay_paint(
     requires fixed { paint.now ≡ with_fixed art.now (length admitted.now) paint.now }
     requires wide { HasWidth into.old (length into.old.cyan) }
     requires room { from + length admitted.now ≤ length into.old.cyan }
-    ensures cyan { LaysSpan (painted_as inks.colour painting) from paint.now.cyan admitted.now
-        into.old.cyan into.new.cyan }
-    ensures magenta { LaysSpan (painted_as inks.colour painting) from paint.now.magenta admitted.now
-        into.old.magenta into.new.magenta }
-    ensures yellow { LaysSpan (painted_as inks.colour painting) from paint.now.yellow admitted.now
-        into.old.yellow into.new.yellow }
-    ensures black { LaysSpan painting from paint.now.black admitted.now into.old.black into.new.black }
-    ensures spot { LaysSpan (painted_as inks.spot painting) from paint.now.spot admitted.now
-        into.old.spot into.new.spot }
+    ensures { LaysRow inks painting from paint.now admitted.now into.old into.new }
 {
     match art {
         Art::Contone(_) => into.lay_samples(inks, painting, from, paint, admitted),

@@ -25,6 +25,15 @@ const BIT_OF: [u8; BLOCK] = [
     8, 4, 2, 1, 128, 64, 32, 16, 8, 4, 2, 1,
 ];
 
+/// How the marks of a row are written.
+#[derive(Clone, Copy)]
+struct Marking {
+    /// Whether a marked byte becomes 255, or else keeps its value.
+    fresh: bool,
+    /// Whether the marked pixels are those whose bit is 0, or else those whose bit is 1.
+    zeros: bool,
+}
+
 /// Writes the marks of a row of pixels, from the first column of a crop on. A byte becomes 0 where the pixel
 /// is not marked. Elsewhere it becomes 255 if the marks are `fresh`, or else it keeps its value.
 pub(crate) fn mark_pixels(
@@ -45,50 +54,42 @@ pub(crate) fn mark_pixels(
 {
     // Called for its clause: one sample a pixel.
     let _shape = image.shape();
+    let marking = Marking {
+        fresh,
+        zeros: image.marks_zeros(),
+    };
     // The first byte holds the crop's first column.
     let first = crop.x as usize % 8;
-    mark(
-        fresh,
-        image.marks_zeros(),
-        reader.part(crop, room),
-        first,
-        into,
-    );
+    mark(marking, reader.part(crop, room), first, into);
 }
 
-// Marks the bytes of pixels whose bit is 0, or else of those whose bit is 1. The pixels before a byte
-// boundary of the row come first, then whole blocks, then the rest.
-fn mark(fresh: bool, zeros: bool, row: &[u8], first: usize, into: &mut [u8])
+// Marks the bytes of a row's pixels. The pixels before a byte boundary of the row come first, then whole
+// blocks, then the rest.
+fn mark(marking: Marking, row: &[u8], first: usize, into: &mut [u8])
     requires small { first + length into.old ≤ 65535 }
     requires within { first + length into.old ≤ 8 * length row.now }
-    ensures { IsMarked (λ j. bit_is zeros row.now (first + j))
-        (held fresh into.old) (length into.old) into.new }
+    ensures { IsMarked (λ j. bit_is marking.zeros row.now (first + j))
+        (held marking.fresh into.old) (length into.old) into.new }
 {
     let all = into.len();
     let ragged = ((8 - first % 8) % 8).min(all);
     let done = ragged + (all - ragged) / BLOCK * BLOCK;
-    mark_bits(fresh, zeros, row, first, into, 0, ragged);
-    mark_blocks(fresh, zeros, row, first, into, ragged, done);
-    mark_bits(fresh, zeros, row, first, into, done, all);
+    mark_bits(marking, row, first, into, 0, ragged);
+    mark_blocks(marking, row, first, into, ragged, done);
+    mark_bits(marking, row, first, into, done, all);
 }
 
 // The loop multiplies by 0 or 1, since a branch on the bit would often be mispredicted.
-fn mark_bits(
-    fresh: bool,
-    zeros: bool,
-    row: &[u8],
-    first: usize,
-    into: &mut [u8],
-    from: usize,
-    to: usize,
-)
+fn mark_bits(marking: Marking, row: &[u8], first: usize, into: &mut [u8], from: usize, to: usize)
     requires order { (from ≤ to) × (to ≤ length into.old) }
     requires small { first + to ≤ 65535 }
     requires within { first + to ≤ 8 * length row.now }
-    ensures { Marks (λ j. bit_is zeros row.now (first + j)) (held fresh into.old) from to into.old into.new }
+    ensures { Marks (λ j. bit_is marking.zeros row.now (first + j)) (held marking.fresh into.old) from to
+        into.old into.new }
 {
     for j in from..to {
-        into[j] = held_byte(fresh, into[j]) * u8::from(has_bit(zeros, row, first + j));
+        into[j] = held_byte(marking.fresh, into[j])
+            * u8::from(has_bit(marking.zeros, row, first + j));
     }
 }
 
@@ -111,27 +112,25 @@ fn has_bit(zeros: bool, row: &[u8], x: usize) -> bool
 }
 
 // Does the same for whole blocks, the first of which starts at a byte of the row.
-fn mark_blocks(
-    fresh: bool,
-    zeros: bool,
-    row: &[u8],
-    first: usize,
-    into: &mut [u8],
-    from: usize,
-    to: usize,
-)
+fn mark_blocks(marking: Marking, row: &[u8], first: usize, into: &mut [u8], from: usize, to: usize)
     requires order { (from ≤ to) × (to ≤ length into.old) }
     requires small { first + to ≤ 65535 }
     requires within { first + to ≤ 8 * length row.now }
     requires begins { from < to → (first + from) % 8 ≡ 0 }
     requires whole { (to - from) % BLOCK ≡ 0 }
-    ensures { Marks (λ j. bit_is zeros row.now (first + j)) (held fresh into.old) from to into.old into.new }
+    ensures { Marks (λ j. bit_is marking.zeros row.now (first + j)) (held marking.fresh into.old) from to
+        into.old into.new }
 {
     let byte = (first + from) / 8;
     for k in 0..(to - from) / BLOCK {
         let bits = &row[byte + 8 * k..byte + 8 * k + 8];
         let at = from + BLOCK * k;
-        mark_block(fresh, zeros, bits, &mut into[at..at + BLOCK]);
+        mark_block(
+            marking.fresh,
+            marking.zeros,
+            bits,
+            &mut into[at..at + BLOCK],
+        );
     }
 }
 

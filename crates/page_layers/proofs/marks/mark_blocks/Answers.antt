@@ -11,4 +11,4 @@ loop-k-preserved c =
     let begins = c.requires.begins (omega arith) in
     let size : length (take cut (drop at c.loop-k.into)) ≡ 64 = omega (arith, c.loop-k.auto.into, length-take cut (drop at c.loop-k.into), length-drop at c.loop-k.into) in
     let long : length c.mark_block.new.into ≡ 64 = omega (arith, c.mark_block.auto.into, size) in
-    Marks_block c.args.fresh c.args.zeros c.args.row.now c.args.first c.args.from at (c.args.from + 64 * (c.loop-k.k + 1)) (at + 64) _ byte (byte + 8) c.args.into.now c.loop-k.into _ (omega arith) (omega arith) (omega arith) (omega arith) (omega arith) (omega (arith, begins)) refl long c.mark_block.ensures c.loop-k.invariant
+    Marks_block c.args.marking.fresh c.args.marking.zeros c.args.row.now c.args.first c.args.from at (c.args.from + 64 * (c.loop-k.k + 1)) (at + 64) _ byte (byte + 8) c.args.into.now c.loop-k.into _ (omega arith) (omega arith) (omega arith) (omega arith) (omega arith) (omega (arith, begins)) refl long c.mark_block.ensures c.loop-k.invariant
