@@ -8,7 +8,7 @@ ghost use Rattle.std.specs.List.{flat_map};
 ghost use Rattle.tif_plate.specs.Plate.{IsSide, entry_bytes, plate_directory, plate_entries};
 ghost use Rattle.tif_plate.specs.Put.{Puts};
 
-use crate::put::{put_u16, put_u32};
+use crate::put::{put_all, put_u16};
 use crate::shape::{rows_per_strip, strips};
 use tif_dir::tag::{
     BITS_PER_SAMPLE, COMPRESSION, IMAGE_LENGTH, IMAGE_WIDTH, PHOTOMETRIC_INTERPRETATION,
@@ -56,7 +56,7 @@ pub(crate) fn put_directory(into: &mut [u8], at: usize, width: u32, height: u32,
 {
     let at = put_u16(into, at, 12);
     let at = put_entries(into, at, &entries(width, height, end));
-    put_u32(into, at, 0)
+    put_all(into, at, &[0])
 }
 
 /// Writes entries in order and returns the offset after them.
@@ -80,8 +80,7 @@ fn put_entry(into: &mut [u8], at: usize, entry: Entry) -> usize
 {
     let at = put_u16(into, at, entry.tag);
     let at = put_u16(into, at, entry.kind);
-    let at = put_u32(into, at, entry.count);
-    put_u32(into, at, entry.value)
+    put_all(into, at, &[entry.count, entry.value])
 }
 
 /// Returns the twelve entries of a plate whose rows end at offset `end`.

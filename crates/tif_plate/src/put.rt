@@ -28,24 +28,13 @@ pub(crate) fn put_u16(into: &mut [u8], at: usize, number: u16) -> usize
     at + 2
 }
 
-/// Writes a four-byte number.
-pub(crate) fn put_u32(into: &mut [u8], at: usize, number: u32) -> usize
-    requires { at + 4 ≤ length into.old }
-    ensures at { result ≡ at + 4 }
-    ensures put { Puts at (little_bytes 4 number) into.old into.new }
-{
-    LittleEndian::write_u32(&mut into[at..], number);
-    at + 4
-}
-
 /// Writes a whole number as a RATIONAL.
 pub(crate) fn put_whole(into: &mut [u8], at: usize, number: u32) -> usize
     requires { at + 8 ≤ length into.old }
     ensures at { result ≡ at + 8 }
     ensures put { Puts at (whole_bytes number) into.old into.new }
 {
-    let at = put_u32(into, at, number);
-    put_u32(into, at, 1)
+    put_all(into, at, &[number, 1])
 }
 
 /// Writes four-byte numbers in order.

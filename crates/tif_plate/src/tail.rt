@@ -12,7 +12,7 @@ ghost use Rattle.tif_plate.specs.Tail.{IsPlaceable, begin_of, begins, strips_end
 ghost use Rattle.tif_plate.specs.Tail.{tail_bytes, tail_offset, tail_room};
 
 use crate::entry::put_directory;
-use crate::put::{put_all, put_u32, put_whole, put_zeros};
+use crate::put::{put_all, put_whole, put_zeros};
 
 /// The offset of the first strip, after the front.
 const FIRST_STRIP: u32 = 8;
@@ -79,7 +79,7 @@ fn put_offsets(into: &mut [u8], at: usize, counts: &[u32]) -> usize
     let mut behind = at;
     let mut place = FIRST_STRIP;
     for count in counts {
-        behind = put_u32(into, behind, place);
+        behind = put_all(into, behind, &[place]);
         place += *count;
     }
     behind

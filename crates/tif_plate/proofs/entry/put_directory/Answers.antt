@@ -8,4 +8,4 @@ unfolding plate_directory plate_entries
 returns-clause-put c =
     Puts-then _ _ _ _ _ _ _
     (Puts-then _ _ _ _ _ _ _ c.put_u16-at.ensures.put (rw c.entries.ensures at c.put_entries-at.ensures.put) (omega arith))
-    c.put_u32.ensures.put (omega arith)
+    c.put_all.ensures.put (omega arith)

@@ -5,7 +5,5 @@ use Rattle.tif_plate.proofs.entry.put_entry.Goals as goal
 pub returns-clause-put : goal.returns-clause-put
 returns-clause-put c =
     Puts-then _ _ _ _ _ _ _
-    (Puts-then _ _ _ _ _ _ _
     (Puts-then _ _ _ _ _ _ _ c.put_u16-at.ensures.put c.put_u16-at-2.ensures.put (omega arith))
-    c.put_u32-at.ensures.put (omega arith))
-    c.put_u32.ensures.put (omega arith)
+    c.put_all.ensures.put (omega arith)

@@ -9,5 +9,5 @@ loop-count-preserved c = record {
   behind = omega arith;
   place = omega (arith, c.loop-count.invariant.place, sum-take_more c.args.counts.now c.loop-count.count-index c.loop-count-test.true);
   put = Puts-number (begin_of c.args.counts.now) c.args.at c.loop-count.behind c.loop-count.count-index _ _ _ c.loop-count.invariant.put
-      (rw c.loop-count.invariant.place at c.put_u32-behind.ensures.put) c.loop-count.invariant.behind;
+      (rw c.loop-count.invariant.place at c.put_all-behind.ensures.put) c.loop-count.invariant.behind;
 }
