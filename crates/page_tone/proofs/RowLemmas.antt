@@ -1,17 +1,8 @@
 -- A row whose pixels are limited from left to right.
-use Rattle.std.proofs.Common.{◌≡◌, ◌≢◌, ⊎_elim, ℕ, ◌+◌, ◌*◌, ◌/◌, ◌<◌, ◌≤◌, min, List, [], ◌∷◌, length, get_or, set, refl, ap, sym, subst, ◌∙◌, arith, below_more, get_or-set_same, get_or-set_other}
+use Rattle.std.proofs.Common.{◌≡◌, ◌≢◌, ⊎_elim, ℕ, ◌+◌, ◌*◌, ◌/◌, ◌<◌, ◌≤◌, min, List, length, get_or, set, ap, sym, subst, ◌∙◌, arith, below_more, get_or-set_same, get_or-set_other}
 use Rattle.std.proofs.Math.Nat.{min-eq_left}
 use Rattle.std.proofs.lemmas.Bool.{cases_lt}
-use Rattle.page_tone.specs.Limit.{AreLimited, HasLimited, IsWritten, limited, limited_at}
-use Rattle.page_tone.proofs.LimitLemmas.{limited-free}
-
--- nothing has been written
-written-none : (value : ℕ → ℕ) (from : ℕ) (row : List ℕ) → IsWritten value from from row row
-written-none value from row = record {
-  inside = λ x above less. absurd (omega arith);
-  before = λ x less. refl;
-  behind = λ x above. refl;
-}
+use Rattle.page_tone.specs.Limit.{HasLimited, IsWritten, limited, limited_at}
 
 -- one more value has been written
 written-more : (value : ℕ → ℕ) (from x v : ℕ) (old now : List ℕ) → x < length now → from ≤ x → IsWritten value from x old now → v ≡ value x → IsWritten value from (x + 1) old (set now x v)

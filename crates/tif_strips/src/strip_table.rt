@@ -43,8 +43,8 @@ impl<'a> Model for StripTable<'a> {
 impl<'a> StripTable<'a> {
     ghost use Rattle.tif_strips.specs.Strips.{IsStriped, samples_in, stored_bytes, strip_count, strip_fault};
     ghost use Rattle.tif_strips.specs.Strips.{plane_row_length, planes, strip_rows, strips_per_plane};
-    ghost use Rattle.tif_strips.specs.Marks.{HasMarks, IsMark, MarksOf};
-    ghost use Rattle.tif_strips.specs.Table.{field_fault};
+    ghost use Rattle.tif_strips.specs.Marks.{HasMarks, IsMark};
+    ghost use Rattle.tif_strips.specs.Table.{HasTable, field_fault};
     ghost use Rattle.tif_strips.specs.Strip.{bytes_at, fault_of, strip_of};
     ghost use Rattle.tif_strips.specs.Extents.{extents_of};
     ghost use Rattle.tif_strips.specs.Planes.{ahead_of, aheads_of, inks_of, strip_samples};
@@ -78,9 +78,7 @@ impl<'a> StripTable<'a> {
         extents: &'a [Extent],
         marks: &'a [u32],
     ) -> StripTable<'a>
-        requires shape { IsStriped shape }
-        requires extents { extents.now ≡ extents_of (record { shape = shape; bytes = bytes.now }) }
-        requires marks { MarksOf (record { shape = shape; bytes = bytes.now }) marks.now }
+        requires { HasTable (record { shape = shape; bytes = bytes.now }) (Extents.Kept extents) marks.now }
         ensures { result ≡ record { shape = shape; bytes = bytes.now } }
     {
         StripTable {

@@ -3,7 +3,7 @@ ghost use Rattle.std.specs.Prelude.{◌≡◌, ◌+◌, ◌-◌, ◌*◌, ◌^�
 ghost use Rattle.std.specs.Thread.{IsSync};
 ghost use Rattle.tif_strips.specs.Marks.{AreMarks, marks_per_strip};
 ghost use Rattle.tif_strips.specs.Strips.{fault_of_strip, strip_count};
-ghost use Rattle.tif_strips.specs.Walk.{Passed, fault_among};
+ghost use Rattle.tif_strips.specs.Walk.{IsTested, Passed, fault_among};
 
 use crate::marking::unmark;
 use crate::strip::Strip;
@@ -136,10 +136,8 @@ fn test_both<T: Threads + Sync>(
     requires few { per ≤ 1023 }
     requires front { length front.old ≡ half * per }
     requires back { length back.old ≡ rest * per }
-    ensures one { result.0 ≡ fault_among table.now first half }
-    ensures other { result.1 ≡ fault_among table.now (first + half) rest }
-    ensures front { result.0 ≡ None → AreMarks table.now first half per front.new }
-    ensures back { result.1 ≡ None → AreMarks table.now (first + half) rest per back.new }
+    ensures one { IsTested table.now first half per result.0 front.new }
+    ensures other { IsTested table.now (first + half) rest per result.1 back.new }
 {
     let middle = first + half;
     let fewer = threads / 2;
@@ -149,14 +147,12 @@ fn test_both<T: Threads + Sync>(
         &mut || -> Option<TagFault>
             requires { IsSync T.row × (first + half ≤ strip_count table.now.shape)
                 × (first + half < 2 ^ 32) × (per ≤ 1023) × (length front.now ≡ half * per) }
-            ensures { (result ≡ fault_among table.entry.now first half)
-                × (result ≡ None → AreMarks table.entry.now first half per front.exit.now) }
+            ensures { IsTested table.entry.now first half per result front.exit.now }
         { test_wide(rt, fewer, table, first, half, per, front) },
         &mut || -> Option<TagFault>
             requires { IsSync T.row × (middle + rest ≤ strip_count table.now.shape)
                 × (middle + rest < 2 ^ 32) × (per ≤ 1023) × (length back.now ≡ rest * per) }
-            ensures { (result ≡ fault_among table.entry.now middle rest)
-                × (result ≡ None → AreMarks table.entry.now middle rest per back.exit.now) }
+            ensures { IsTested table.entry.now middle rest per result back.exit.now }
         { test_wide(rt, more, table, middle, rest, per, back) },
     )
 }
