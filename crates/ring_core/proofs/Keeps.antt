@@ -57,29 +57,6 @@ fill_room places total head p l e =
     let k = above_is head places p.known parts.0 in
     record { from = k.0; known = k.1; room = k.2; in_total = ltb-true head total rest.0; empty = not-true l.filled rest.1 }
 
--- the same rows, for another progress or stage of their reader
-pub with_rows : {places total head : ℕ} {p : Progress} {l : Lanes} (q : Progress) (stage : Stage)
-    → IsSoundLanes places total head p l
-    → ((c : ℕ) → q.cursor ≡ Some c → stage ≡ Holding → c < q.seen)
-    → ((c : ℕ) → q.cursor ≡ Some c → stage ≡ Closed → c < q.seen) → (q.cursor ≡ None → stage ≡ Idle)
-    → ((k : ℕ) → q.known ≡ Some k → l.filled ≡ true → head < k + places)
-    → ((c n : ℕ) → q.cursor ≡ Some c → c ≤ n → n < head → (stage ≡ Holding → n ≢ c) → l.row n ≡ Some n)
-    → ((c : ℕ) → q.cursor ≡ Some c → stage ≡ Holding → l.row c ≡ None)
-    → IsSoundLanes places total head q (record l { stage = stage })
-with_rows q stage m holding_ahead closed_ahead left_idle room lies out = record {
-  holding_ahead = holding_ahead;
-  closed_ahead = closed_ahead;
-  left_idle = left_idle;
-  room = room;
-  lies = lies;
-  out = out;
-  placed = m.placed;
-  not_ahead = m.not_ahead;
-  newest = m.newest;
-  in_total = m.in_total;
-  fresh = m.fresh;
-}
-
 -- Look
 
 pub look_progress : (places head : ℕ) (p : Progress) → IsSoundProgress places head p
@@ -96,9 +73,15 @@ look_progress places head p h = record {
 
 pub look_lanes : (places total head : ℕ) (p : Progress) (l : Lanes) → IsSoundProgress places head p
     → IsSoundLanes places total head p l → IsSoundLanes places total head (looked p) l
-look_lanes places total head p l h m = with_rows (looked p) l.stage m
-    m.holding_ahead m.closed_ahead m.left_idle (λ k e f. let j = h.joined_known k e in omega (arith, m.room j.0 j.1 f))
-    m.lies m.out
+look_lanes places total head p l h m = record {
+  holding_ahead = m.holding_ahead;
+  closed_ahead = m.closed_ahead;
+  left_idle = m.left_idle;
+  room = λ k e f. let j = h.joined_known k e in omega (arith, m.room j.0 j.1 f);
+  lies = m.lies;
+  out = m.out;
+  rows = m.rows;
+}
 
 -- Fill
 
@@ -120,11 +103,13 @@ fill_lanes places total head p l can h m =
           put_other places head (Some head) l.row n (apart places n head high (omega (arith, near c e))) ∙ m.lies c n e low high held;
       out = λ c e held.
           put_other places head (Some head) l.row c (apart places c head (omega (arith, m.holding_ahead c e held, h.seen_in)) (near c e)) ∙ m.out c e held;
-      placed = λ q n. put_gives places head n (Some head) l.row (λ q. q % places ≡ n % places) (λ q s e. let same : head ≡ n = cc in s ∙ ap (λ k. k % places) same) (λ q. m.placed q n) q;
-      not_ahead = λ q n. put_gives places head n (Some head) l.row (λ q. n ≤ head) (λ q s e. let same : head ≡ n = cc in omega arith) (λ q. m.not_ahead q n) q;
-      newest = λ q e. refl;
-      in_total = λ f. x.in_total;
-      fresh = λ f. put_same places head (Some head) l.row head refl;
+      rows = record {
+        placed = λ q n. put_gives places head n (Some head) l.row (λ q. q % places ≡ n % places) (λ q s e. let same : head ≡ n = cc in s ∙ ap (λ k. k % places) same) (λ q. m.rows.placed q n) q;
+        not_ahead = λ q n. put_gives places head n (Some head) l.row (λ q. n ≤ head) (λ q s e. let same : head ≡ n = cc in omega arith) (λ q. m.rows.not_ahead q n) q;
+        newest = λ q e. refl;
+        in_total = λ f. x.in_total;
+        fresh = λ f. put_same places head (Some head) l.row head refl;
+      };
     }
 
 -- Publish. The first half needs only room, which a filled lane implies
@@ -162,15 +147,17 @@ publish_lanes places total head p l ready h m = record {
     | inr above ↦
         let at : head ≡ n = omega arith in
         let j = h.joined_known c e in
-        let full = m.fresh (ready_filled j.0 p.known l.filled j.1 ready) in
+        let full = m.rows.fresh (ready_filled j.0 p.known l.filled j.1 ready) in
         ap l.row (sym at) ∙ (full ∙ ap Some at)
   ];
   out = m.out;
-  placed = m.placed;
-  not_ahead = λ q n e. omega (arith, m.not_ahead q n e);
-  newest = λ q e. absurd (omega (arith, m.not_ahead q (head + 1) e));
-  in_total = λ f. absurd (false≢true f);
-  fresh = λ f. absurd (false≢true f);
+  rows = record {
+    placed = m.rows.placed;
+    not_ahead = λ q n e. omega (arith, m.rows.not_ahead q n e);
+    newest = λ q e. absurd (omega (arith, m.rows.not_ahead q (head + 1) e));
+    in_total = λ f. absurd (false≢true f);
+    fresh = λ f. absurd (false≢true f);
+  };
 }
 
 -- See
@@ -189,9 +176,15 @@ see_progress places head p h = record {
 
 pub see_lanes : (places total head : ℕ) (p : Progress) (l : Lanes) → IsSoundProgress places head p
     → IsSoundLanes places total head p l → IsSoundLanes places total head (saw head p) l
-see_lanes places total head p l h m = with_rows (saw head p) l.stage m
-    (λ c e s. omega (arith, m.holding_ahead c e s, h.seen_in)) (λ c e s. omega (arith, m.closed_ahead c e s, h.seen_in)) m.left_idle m.room
-    m.lies m.out
+see_lanes places total head p l h m = record {
+  holding_ahead = λ c e s. omega (arith, m.holding_ahead c e s, h.seen_in);
+  closed_ahead = λ c e s. omega (arith, m.closed_ahead c e s, h.seen_in);
+  left_idle = m.left_idle;
+  room = m.room;
+  lies = m.lies;
+  out = m.out;
+  rows = m.rows;
+}
 
 -- Open and close, at the cursor c
 
@@ -224,13 +217,15 @@ open_lanes places total head p l c at can h m =
           let away : n % places ≢ c % places = λ x. apart places c n (omega arith) (omega (arith, near places head p c at h)) (sym x) in
           put_other places c None l.row n away ∙ m.lies c n at lower high (λ s. absurd (let idle = idle_is l.stage parts.1 in cc));
       out = λ d e s. let same : c ≡ d = cc in ap (put_row places c None l.row) (sym same) ∙ put_same places c None l.row c refl;
-      placed = λ q n. put_gives places c n None l.row (λ q. q % places ≡ n % places) (λ q s e. cc) (λ q. m.placed q n) q;
-      not_ahead = λ q n. put_gives places c n None l.row (λ q. n ≤ head) (λ q s e. cc) (λ q. m.not_ahead q n) q;
-      newest = put_gives places c head None l.row (λ q. l.filled ≡ true) (λ q s e. cc) m.newest;
-      in_total = m.in_total;
-      fresh = λ f.
-          let away : head % places ≢ c % places = λ x. apart places c head (omega (arith, h.seen_in)) (near_filled places total head p l c at h m f) (sym x) in
-          put_other places c None l.row head away ∙ m.fresh f;
+      rows = record {
+        placed = λ q n. put_gives places c n None l.row (λ q. q % places ≡ n % places) (λ q s e. cc) (λ q. m.rows.placed q n) q;
+        not_ahead = λ q n. put_gives places c n None l.row (λ q. n ≤ head) (λ q s e. cc) (λ q. m.rows.not_ahead q n) q;
+        newest = put_gives places c head None l.row (λ q. l.filled ≡ true) (λ q s e. cc) m.rows.newest;
+        in_total = m.rows.in_total;
+        fresh = λ f.
+            let away : head % places ≢ c % places = λ x. apart places c head (omega (arith, h.seen_in)) (near_filled places total head p l c at h m f) (sym x) in
+            put_other places c None l.row head away ∙ m.rows.fresh f;
+      };
     }
 
 pub close_lanes : (places total head : ℕ) (p : Progress) (l : Lanes) (c : ℕ) → p.cursor ≡ Some c
@@ -255,13 +250,15 @@ close_lanes places total head p l c at can h m =
                 put_other places c (Some c) l.row n away ∙ m.lies c n at lower high (λ s. other)
           ];
       out = λ d e s. cc;
-      placed = λ q n. put_gives places c n (Some c) l.row (λ q. q % places ≡ n % places) (λ q s e. let same : c ≡ n = cc in s ∙ ap (λ k. k % places) same) (λ q. m.placed q n) q;
-      not_ahead = λ q n. put_gives places c n (Some c) l.row (λ q. n ≤ head) (λ q s e. let same : c ≡ n = cc in omega (arith, h.seen_in)) (λ q. m.not_ahead q n) q;
-      newest = put_gives places c head (Some c) l.row (λ q. l.filled ≡ true) (λ q s e. let same : c ≡ head = cc in absurd (omega (arith, h.seen_in))) m.newest;
-      in_total = m.in_total;
-      fresh = λ f.
-          let away : head % places ≢ c % places = λ x. apart places c head (omega (arith, h.seen_in)) (near_filled places total head p l c at h m f) (sym x) in
-          put_other places c (Some c) l.row head away ∙ m.fresh f;
+      rows = record {
+        placed = λ q n. put_gives places c n (Some c) l.row (λ q. q % places ≡ n % places) (λ q s e. let same : c ≡ n = cc in s ∙ ap (λ k. k % places) same) (λ q. m.rows.placed q n) q;
+        not_ahead = λ q n. put_gives places c n (Some c) l.row (λ q. n ≤ head) (λ q s e. let same : c ≡ n = cc in omega (arith, h.seen_in)) (λ q. m.rows.not_ahead q n) q;
+        newest = put_gives places c head (Some c) l.row (λ q. l.filled ≡ true) (λ q s e. let same : c ≡ head = cc in absurd (omega (arith, h.seen_in))) m.rows.newest;
+        in_total = m.rows.in_total;
+        fresh = λ f.
+            let away : head % places ≢ c % places = λ x. apart places c head (omega (arith, h.seen_in)) (near_filled places total head p l c at h m f) (sym x) in
+            put_other places c (Some c) l.row head away ∙ m.rows.fresh f;
+      };
     }
 
 -- Advance, at the cursor c. The first half needs only that the reader knows of a row at its cursor
@@ -294,9 +291,15 @@ pub advance_lanes : (places total head : ℕ) (p : Progress) (l : Lanes) (c : �
 advance_lanes places total head p l c at can m =
     let parts = and_parts (is_some p.cursor) (is_closed l.stage) can in
     let done : l.stage ≡ Closed = closed_is l.stage parts.1 in
-    with_rows (advanced c p) Idle m
-    (λ d e s. cc) (λ d e s. cc) (λ e. refl) m.room
-    (λ d n e low high held. let same : c + 1 ≡ d = cc in m.lies c n at (omega arith) high (λ s. cc)) (λ d e s. cc)
+    record {
+      holding_ahead = λ d e s. cc;
+      closed_ahead = λ d e s. cc;
+      left_idle = λ e. refl;
+      room = m.room;
+      lies = λ d n e low high held. let same : c + 1 ≡ d = cc in m.lies c n at (omega arith) high (λ s. cc);
+      out = λ d e s. cc;
+      rows = m.rows;
+    }
 
 -- where an advance is possible, the reader knows of a row at its cursor
 pub advance_ahead : (places total head : ℕ) (p : Progress) (l : Lanes) (c : ℕ) → p.cursor ≡ Some c
@@ -323,6 +326,12 @@ pub leave_lanes : (places total head : ℕ) (p : Progress) (l : Lanes) → can_l
     → IsSoundLanes places total head p l → IsSoundLanes places total head (departed p) l
 leave_lanes places total head p l can m =
     let idle : l.stage ≡ Idle = idle_is l.stage (and_parts (is_some p.cursor) (is_idle l.stage) can).1 in
-    with_rows (departed p) l.stage m
-    (λ d e s. cc) (λ d e s. cc) (λ e. idle) m.room
-    (λ d n e low high held. cc) (λ d e s. cc)
+    record {
+      holding_ahead = λ d e s. cc;
+      closed_ahead = λ d e s. cc;
+      left_idle = λ e. idle;
+      room = m.room;
+      lies = λ d n e low high held. cc;
+      out = λ d e s. cc;
+      rows = m.rows;
+    }

@@ -7,7 +7,6 @@ use Rattle.ring_core.specs.declared.event.Stage.{Stage}
 use Rattle.ring_core.specs.declared.event.Stage.TheVariants.{Idle, Holding, Closed}
 use Rattle.ring_core.specs.Schedule.{Progress, Lanes}
 use Rattle.ring_core.specs.Sound.{IsSoundProgress, IsSoundLanes}
-use Rattle.ring_core.proofs.Keeps.{with_rows}
 use Rattle.ring_core.specs.Plain.{plain_stage, from_low, first_row, plain_lanes}
 
 -- a number that is not below low is kept
@@ -64,11 +63,13 @@ plain_keeps places total head p l h m = record {
       let here : from_low (first_row head p.cursor) (l.row n) ≡ from_low c (Some n) = (λ i. from_low (unwrap_or (e i) head) (m.lies c n e low high (λ s. held (ap plain_stage s)) i)) in
       here ∙ from_low_same c n low;
   out = λ c e s. ap (from_low (first_row head p.cursor)) (m.out c e (plain_holding l.stage s));
-  placed = λ q n e. m.placed q n (from_low_is (first_row head p.cursor) n (l.row q) e).0;
-  not_ahead = λ q n e. m.not_ahead q n (from_low_is (first_row head p.cursor) n (l.row q) e).0;
-  newest = λ q e. m.newest q (from_low_is (first_row head p.cursor) head (l.row q) e).0;
-  in_total = m.in_total;
-  fresh = λ f. ap (from_low (first_row head p.cursor)) (m.fresh f) ∙ from_low_same (first_row head p.cursor) head (first_low places head p h);
+  rows = record {
+    placed = λ q n e. m.rows.placed q n (from_low_is (first_row head p.cursor) n (l.row q) e).0;
+    not_ahead = λ q n e. m.rows.not_ahead q n (from_low_is (first_row head p.cursor) n (l.row q) e).0;
+    newest = λ q e. m.rows.newest q (from_low_is (first_row head p.cursor) head (l.row q) e).0;
+    in_total = m.rows.in_total;
+    fresh = λ f. ap (from_low (first_row head p.cursor)) (m.rows.fresh f) ∙ from_low_same (first_row head p.cursor) head (first_low places head p h);
+  };
 }
 
 -- a row that is back in its reader's lane, read as closed
@@ -78,6 +79,12 @@ unsettled l = record l { stage = Closed }
 pub unsettle_keeps : (places total head : ℕ) (p : Progress) (l : Lanes) (c : ℕ) → p.cursor ≡ Some c
     → c < p.seen → l.stage ≡ Idle → IsSoundLanes places total head p l
     → IsSoundLanes places total head p (unsettled l)
-unsettle_keeps places total head p l c at ahead idle m = with_rows p Closed m
-    (λ d e s. cc) (λ d e s. let same : c ≡ d = cc in omega arith) (λ e. cc) m.room
-    (λ d n e low high held. m.lies d n e low high (λ s. cc)) (λ d e s. cc)
+unsettle_keeps places total head p l c at ahead idle m = record {
+  holding_ahead = λ d e s. cc;
+  closed_ahead = λ d e s. let same : c ≡ d = cc in omega arith;
+  left_idle = λ e. cc;
+  room = m.room;
+  lies = λ d n e low high held. m.lies d n e low high (λ s. cc);
+  out = λ d e s. cc;
+  rows = m.rows;
+}

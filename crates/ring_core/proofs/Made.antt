@@ -18,14 +18,18 @@ pub map_same : {A : Type 0} (f g : ℕ → A) (a n : ℕ) → ((k : ℕ) → a �
 map_same f g a zero h = refl
 map_same f g a (suc n) h = λ i. h a (omega arith) (omega arith) i ∷ map_same f g (a + 1) n (λ k low high. h k (omega arith) (omega arith)) i
 
--- schedule s has n readers, whose parts are p and l
-pub record IsMade (s : Schedule) (places total head n : ℕ) (p : ℕ → Progress) (l : ℕ → Lanes) : Type 0 where
+-- schedule s has these numbers, and n readers
+pub record HasNumbers (s : Schedule) (places total head n : ℕ) : Type 0 where
   pub places_is : s.places ≡ places
   pub total_is : s.total ≡ total
   pub head_is : s.head ≡ head
   pub some_place : 0 < s.places
   pub count : readers s ≡ n
   pub sized : IsSized s
+
+-- schedule s has n readers, whose parts are p and l
+pub record IsMade (s : Schedule) (places total head n : ℕ) (p : ℕ → Progress) (l : ℕ → Lanes) : Type 0 where
+  pub numbers : HasNumbers s places total head n
   pub progress : (r : ℕ) → r < n → progress_of s r ≡ p r
   pub lanes : (r : ℕ) → r < n → lanes_of s r ≡ l r
 
@@ -75,12 +79,14 @@ pub is_made : (places total head n : ℕ) (p : ℕ → Progress) (l : ℕ → La
     → ((r : ℕ) → r < n → ByPlace places (l r))
     → IsMade (schedule_of places total head n p l) places total head n p l
 is_made places total head n p l some by = record {
-  places_is = refl;
-  total_is = refl;
-  head_is = refl;
-  some_place = some;
-  count = length-map-range_with_len (λ (r : ℕ). (p r).cursor) 0 n;
-  sized = made_sized places total head n p l;
+  numbers = record {
+    places_is = refl;
+    total_is = refl;
+    head_is = refl;
+    some_place = some;
+    count = length-map-range_with_len (λ (r : ℕ). (p r).cursor) 0 n;
+    sized = made_sized places total head n p l;
+  };
   progress = λ r h. made_progress places total head n p l r h;
   lanes = λ r h. made_lanes places total head n p l r some h (by r h);
 }
@@ -105,8 +111,9 @@ pub made_plain : (s : Schedule) (places total head n : ℕ) (p : ℕ → Progres
     → IsMade s places total head n p l
     → plain s ≡ schedule_of places total head n p (λ r. plain_lanes head (p r) (l r))
 made_plain s places total head n p l m =
-    let some : 0 < places = subst (λ k. 0 < k) m.places_is m.some_place in
-    (λ i. schedule_of (m.places_is i) (m.total_is i) (m.head_is i) (m.count i) (progress_of s) (λ r. plain_lanes (m.head_is i) (progress_of s r) (lanes_of s r)))
+    let is = m.numbers in
+    let some : 0 < places = subst (λ k. 0 < k) is.places_is is.some_place in
+    (λ i. schedule_of (is.places_is i) (is.total_is i) (is.head_is i) (is.count i) (progress_of s) (λ r. plain_lanes (is.head_is i) (progress_of s r) (lanes_of s r)))
     ∙ made_same places total head n (progress_of s) p (λ r. plain_lanes head (progress_of s r) (lanes_of s r)) (λ r. plain_lanes head (p r) (l r)) some m.progress
     (λ r h i. plain_lanes head (m.progress r h i) (m.lanes r h i))
 
@@ -114,21 +121,25 @@ made_plain s places total head n p l m =
 pub made_sound : (s : Schedule) (places total head n : ℕ) (p : ℕ → Progress) (l : ℕ → Lanes)
     → IsMade s places total head n p l → IsSoundWords places total head n p
     → ((r : ℕ) → r < n → IsSoundLanes places total head (p r) (l r)) → IsSound s
-made_sound s places total head n p l m words lanes = record {
-  sized = m.sized;
+made_sound s places total head n p l m words lanes = let is = m.numbers in record {
+  sized = is.sized;
   words = record {
-    some_place = m.some_place;
-    head_in = let a = m.head_is in let b = m.total_is in let c = words.head_in in omega arith;
-    each = λ r h. let i : r < n = let c = m.count in omega arith in subst (λ x. x) (λ j. IsSoundProgress (sym m.places_is j) (sym m.head_is j) (sym (m.progress r i) j)) (words.each r i);
+    some_place = is.some_place;
+    head_in = let a = is.head_is in let b = is.total_is in let c = words.head_in in omega arith;
+    each = λ r h. let i : r < n = let c = is.count in omega arith in subst (λ x. x) (λ j. IsSoundProgress (sym is.places_is j) (sym is.head_is j) (sym (m.progress r i) j)) (words.each r i);
   };
-  lanes = λ r h. let i : r < n = let c = m.count in omega arith in
-      subst (λ x. x) (λ j. IsSoundLanes (sym m.places_is j) (sym m.total_is j) (sym m.head_is j) (sym (m.progress r i) j) (sym (m.lanes r i) j)) (lanes r i);
+  lanes = λ r h. let i : r < n = let c = is.count in omega arith in
+      subst (λ x. x) (λ j. IsSoundLanes (sym is.places_is j) (sym is.total_is j) (sym is.head_is j) (sym (m.progress r i) j) (sym (m.lanes r i) j)) (lanes r i);
 }
 
 -- the parts of a schedule
 pub own_parts : (s : Schedule) → IsSized s → 0 < s.places
     → IsMade s s.places s.total s.head (readers s) (progress_of s) (lanes_of s)
-own_parts s z some = record { places_is = refl; total_is = refl; head_is = refl; some_place = some; count = refl; sized = z; progress = λ r h. refl; lanes = λ r h. refl }
+own_parts s z some = record {
+  numbers = record { places_is = refl; total_is = refl; head_is = refl; some_place = some; count = refl; sized = z };
+  progress = λ r h. refl;
+  lanes = λ r h. refl;
+}
 
 -- in the plain reading the row in a lane still depends on the place alone
 pub plain_by_place : (places head : ℕ) (p : Progress) (l : Lanes) → ByPlace places l

@@ -67,7 +67,11 @@ sound_by : (s t : Schedule) (r : ℕ) (p : Progress) (l : Lanes) → IsSound s �
 sound_by s t r p l h z places total head count here same there still good lies =
     let some = subst (λ k. 0 < k) (sym places) h.words.some_place in
     made_sound t s.places s.total s.head (readers s) (progress_of t) (lanes_of t)
-    (record { places_is = places; total_is = total; head_is = head; some_place = some; count = count; sized = z; progress = λ q i. refl; lanes = λ q i. refl })
+    (record {
+      numbers = record { places_is = places; total_is = total; head_is = head; some_place = some; count = count; sized = z };
+      progress = λ q i. refl;
+      lanes = λ q i. refl;
+    })
     (words_by s r (progress_of t) h (subst (λ x. IsSoundProgress s.places s.head x) (sym here) good) same)
     (lanes_by s r (progress_of t) (lanes_of t) h (subst (λ x. x) (λ j. SoundLanes s (sym here j) (sym there j)) lies) same still)
 
@@ -199,11 +203,13 @@ fresh_lanes_sound places total = record {
   room = λ k e f. absurd (false≢true f);
   lies = λ c n e low high held. absurd (omega arith);
   out = λ c e s. cc;
-  placed = λ q n e. cc;
-  not_ahead = λ q n e. cc;
-  newest = λ q e. cc;
-  in_total = λ f. absurd (false≢true f);
-  fresh = λ f. absurd (false≢true f);
+  rows = record {
+    placed = λ q n e. cc;
+    not_ahead = λ q n e. cc;
+    newest = λ q e. cc;
+    in_total = λ f. absurd (false≢true f);
+    fresh = λ f. absurd (false≢true f);
+  };
 }
 
 pub start_sound : (places n total : ℕ) → 0 < places → IsSound (start places n total)
@@ -247,8 +253,8 @@ fills_closed s r c h can at =
     record {
       published = older;
       lying = λ n e. elim (cases_eq n s.head) [
-        | inl is ↦ absurd (false≢true (sym room.empty ∙ m.newest s.head (e ∙ ap Some is)))
-        | inr other ↦ older n (omega (arith, m.not_ahead s.head n e)) (sym (m.placed s.head n e))
+        | inl is ↦ absurd (false≢true (sym room.empty ∙ m.rows.newest s.head (e ∙ ap Some is)))
+        | inr other ↦ older n (omega (arith, m.rows.not_ahead s.head n e)) (sym (m.rows.placed s.head n e))
       ];
     }
 

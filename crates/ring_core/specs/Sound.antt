@@ -1,6 +1,7 @@
 -- A sound schedule. The clauses on head, cursors, known and seen are separate from those on lanes, so that a
 -- rule over shared words alone can cite them. All are stated for one reader, over plain values.
-use Rattle.std.specs.Prelude.{◌≡◌, ◌≢◌, ℕ, ◌+◌, ◌*◌, ◌%◌, ◌<◌, ◌≤◌, true, length, Some, None, slice_index}
+use Rattle.std.specs.Prelude.{◌≡◌, ◌≢◌, ℕ, ◌+◌, ◌*◌, ◌%◌, ◌<◌, ◌≤◌, Bool, true, length, Option, Some, None}
+use Rattle.std.specs.Prelude.{slice_index}
 use Rattle.ring_core.specs.declared.event.Stage.TheVariants.{Idle, Holding, Closed}
 use Rattle.ring_core.specs.Schedule.{Schedule, readers, Progress, Lanes, progress_of, lanes_of}
 
@@ -21,6 +22,17 @@ pub record IsSoundProgress (places head : ℕ) (p : Progress) : Type 0 where
   -- head is at most one turn of the ring ahead of the cursor that the writer knows
   pub within : (k : ℕ) → p.known ≡ Some k → head ≤ k + places
 
+-- the rows in a reader's lanes, and whether the lane of row head is filled
+pub record AreSoundRows (places total head : ℕ) (row : ℕ → Option ℕ) (filled : Bool) : Type 0 where
+  -- a row is stored at its own place
+  pub placed : (q n : ℕ) → row q ≡ Some n → q % places ≡ n % places
+  -- no row above head is in a lane, and row head only if the lane is filled
+  pub not_ahead : (q n : ℕ) → row q ≡ Some n → n ≤ head
+  pub newest : (q : ℕ) → row q ≡ Some head → filled ≡ true
+  -- a filled lane holds row head, which is below total
+  pub in_total : filled ≡ true → head < total
+  pub fresh : filled ≡ true → row head ≡ Some head
+
 -- a reader's stage, and the rows in its lanes
 pub record IsSoundLanes (places total head : ℕ) (p : Progress) (l : Lanes) : Type 0 where
   -- a row that it holds or closed is one that it saw published
@@ -34,14 +46,7 @@ pub record IsSoundLanes (places total head : ℕ) (p : Progress) (l : Lanes) : T
   pub lies : (c n : ℕ) → p.cursor ≡ Some c → c ≤ n → n < head → (l.stage ≡ Holding → n ≢ c) → l.row n ≡ Some n
   -- the lane of the row that it holds is empty
   pub out : (c : ℕ) → p.cursor ≡ Some c → l.stage ≡ Holding → l.row c ≡ None
-  -- a row is stored at its own place
-  pub placed : (q n : ℕ) → l.row q ≡ Some n → q % places ≡ n % places
-  -- no row above head is in a lane, and row head only if the lane is filled
-  pub not_ahead : (q n : ℕ) → l.row q ≡ Some n → n ≤ head
-  pub newest : (q : ℕ) → l.row q ≡ Some head → l.filled ≡ true
-  -- a filled lane holds row head, which is below total
-  pub in_total : l.filled ≡ true → head < total
-  pub fresh : l.filled ≡ true → l.row head ≡ Some head
+  pub rows : AreSoundRows places total head l.row l.filled
 
 -- head, and the progress of n readers
 pub record IsSoundWords (places total head n : ℕ) (p : ℕ → Progress) : Type 0 where

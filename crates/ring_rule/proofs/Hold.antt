@@ -105,7 +105,7 @@ module _ (g : RingNumbers) (words : List ℕ) (homes : Homes) (w : WriterView) (
       let head = head_shown words in
       let p = h.sound.each r l in
       let out : ℕ → Bool = λ n. is_out (home_at homes (lane_place g.places r n)) in
-      let filled = same_filled head (row_shown g.places words homes r head) (get_or w.filled r false) s.fresh (s.newest head) in
+      let filled = same_filled head (row_shown g.places words homes r head) (get_or w.filled r false) s.rows.fresh (s.rows.newest head) in
       let held : (c : ℕ) → cursor_shown words r ≡ Some c → (readers r).out ≡ true → (c < head) × (out c ≡ true) = λ c e o. (
       let stage : stage_by (readers r) ≡ Holding = ap (λ b. cond b Holding Idle) o in
       let ahead = s.holding_ahead c e stage in

@@ -23,12 +23,7 @@ before_made g s w k is =
     let made = is_made g.places g.total head g.readers (shown s.words found readers) (lanes_shown g.places s.words s.homes) k.holds.sound.some_place
     (λ r h j. shown_by_place g.places r head (cursor_shown s.words r) s.homes j) in
     record {
-      places_is = made.places_is;
-      total_is = made.total_is;
-      head_is = made.head_is;
-      some_place = made.some_place;
-      count = made.count;
-      sized = made.sized;
+      numbers = made.numbers;
       progress = λ r h. made.progress r h ∙ (λ i. shown s.words (is i) readers r);
       lanes = λ r h. made.lanes r h ∙ (lanes_agree g s.words s.homes found readers k.holds k.lanes r h ∙ (λ i. lanes_known g.places s.words s.homes (is i) readers r));
     }

@@ -125,13 +125,13 @@ module _ (g : RingNumbers) (words : List ℕ) (homes : Homes) (w : WriterView) (
           let j = (h.sound.each r l).joined_known c at in
           let same : j.0 ≡ k = let a = j.1 in cc in
           let reached = j.2 in
-          one_turn g.places n head ((m.sound r l).not_ahead head n row) (omega arith) (sym ((m.sound r l).placed head n row))
+          one_turn g.places n head ((m.sound r l).rows.not_ahead head n row) (omega arith) (sym ((m.sound r l).rows.placed head n row))
 
       by_row : (o : Option ℕ) → row_shown g.places words homes r head ≡ o → o ≡ None
       by_row None e = refl
       by_row (Some n) e =
           let is = below n (cursor_shown words r) refl e e in
-          absurd (false≢true (sym unfilled ∙ (m.sound r l).newest head (e ∙ ap Some is)))
+          absurd (false≢true (sym unfilled ∙ (m.sound r l).rows.newest head (e ∙ ap Some is)))
 
   -- a lane that shows no row at its place looks the same without its buffer
   none_put : (r : ℕ) (row : ℕ → Option ℕ) (n : ℕ) → ((k : ℕ) → row (k % g.places) ≡ row k) → row n ≡ None → (k : ℕ) → put_row g.places n None row k ≡ row k
