@@ -11,7 +11,7 @@ use Rattle.indexmap.specs.IndexSet.{insert_key, insert_all}
 use Rattle.plan_json.specs.declared.named.NamedLayer.{NamedLayer}
 use Rattle.plan_parts.specs.Data.{LayerData, PageData}
 use Rattle.plan_json.specs.Pages.{PageText}
-use Rattle.plan_json.specs.Files.{texts, named_by, named_on, files_of, index_of, layer_of, page_of, pages_of, Places, PlacesAll, NotesMask}
+use Rattle.plan_json.specs.Files.{texts, named_by, named_on, files_of, index_of, layer_of, page_of, pages_of, Known, Stays, Places, PlacesAll, NotesMask}
 use Rattle.plan_parts.proofs.Places.{list_any-map}
 use Rattle.plan_parts.proofs.Sound.{map-push}
 
@@ -38,9 +38,6 @@ shown-index_of [] s = refl
 shown-index_of (k ∷ keys) s = ap (λ n. cond (not (bytes_eq s k.now)) (1 + n) 0) (shown-index_of keys s)
 
 -- ---- indexes that do not change
-
-pub Known : Texts → List ℕ → Type 0
-Known files s = index_of files s < length files
 
 pub known_below : (files : Texts) (s : List ℕ) → Known files s → index_of files s < length files
 unfolding Known
@@ -136,11 +133,9 @@ mask_same : (files : Texts) (mask : Option (List ℕ)) (more : Texts)
 mask_same files None more h = refl
 mask_same files (Some s) more h = ap Some (stays files s more h.0).0
 
-pub layer_same : (files : Texts) (layer : NamedLayer) (more : Texts)
-    → AllByRecursion (Known files) (named_by layer)
-    → layer_of (insert_all bytes_eq files more) layer ≡ layer_of files layer
+layer_stays : (layer : NamedLayer) → Stays (named_by layer) (λ files. layer_of files layer)
 unfolding layer_of
-layer_same files layer more h = rw ((stays files layer.file more h.0).0, mask_same files layer.mask more h.1) refl
+layer_stays layer files more h = rw ((stays files layer.file more h.0).0, mask_same files layer.mask more h.1) refl
 
 mask_noted : (files : Texts) (mask : Option (List ℕ))
     → option_map (index_of (insert_all bytes_eq files (option_to_list mask))) mask
@@ -155,16 +150,9 @@ pub split : {A : Type 0} (P : A → Type 0) (xs ys : List A) → AllByRecursion 
 split P [] ys h = (tt, h)
 split P (x ∷ xs) ys h = let rest = split P xs ys h.1 in ((h.0, rest.0), rest.1)
 
-module _ {X Y : Type 0} (names : X → Texts) (of : Texts → X → Y) (same : (files : Texts) (x : X) (more : Texts) → AllByRecursion (Known files) (names x) → of (insert_all bytes_eq files more) x ≡ of files x) where
-  map_same : (files : Texts) (xs : List X) (more : Texts) → AllByRecursion (Known files) (flat_map names xs)
-      → map (of (insert_all bytes_eq files more)) xs ≡ map (of files) xs
-  map_same files [] more h = refl
-  map_same files (x ∷ xs) more h =
-      let parts = split (Known files) (names x) (flat_map names xs) h in
-      rw (same files x more parts.0) (ap (λ ys. of files x ∷ ys) (map_same files xs more parts.1))
-
+module _ {X Y : Type 0} (names : X → Texts) (of : Texts → X → Y) where
   pub place_none : (old : Texts) → PlacesAll names of old [] old []
-  place_none old = record { files = refl; items = refl }
+  place_none old = record { files = refl; items = refl; stays = λ files more h. refl }
 
   place_more : (old : Texts) (done : List X) (x : X) (mid new : Texts) (ys : List Y) (y : Y)
       → PlacesAll names of old done mid ys → Places names of mid x new y
@@ -172,10 +160,17 @@ module _ {X Y : Type 0} (names : X → Texts) (of : Texts → X → Y) (same : (
   place_more old done x mid new ys y before one =
       let joined : flat_map names (done ++ x ∷ []) ≡ flat_map names done ++ names x = flat_map-append names done (x ∷ []) ∙ ap (λ fs. flat_map names done ++ fs) (append-nil (names x)) in
       let known : AllByRecursion (Known mid) (flat_map names done) = subst (λ (fs : Texts). AllByRecursion (Known fs) (flat_map names done)) (sym before.files) (all_known old (flat_map names done)) in
-      let placed : map (of new) done ≡ map (of mid) done = rw one.files (map_same mid done (names x) known) in
+      let placed : map (of new) done ≡ map (of mid) done = rw one.files (before.stays mid (names x) known) in
       record {
         files = one.files ∙ ap (λ fs. insert_all bytes_eq fs (names x)) before.files ∙ sym (fold-append (insert_key bytes_eq) old (flat_map names done) (names x)) ∙ ap (insert_all bytes_eq old) (sym joined);
         items = ap (λ zs. zs ++ y ∷ []) (before.items ∙ sym placed) ∙ ap (λ z. map (of new) done ++ z ∷ []) one.item ∙ sym (map-push (of new) done x);
+        stays = λ files more h.
+            let all = insert_all bytes_eq files more in
+            let parts = split (Known files) (flat_map names done) (names x) (subst (AllByRecursion (Known files)) joined h) in
+            map-push (of all) done x
+            ∙ ap (λ zs. zs ++ of all x ∷ []) (before.stays files more parts.0)
+            ∙ ap (λ z. map (of files) done ++ z ∷ []) (one.stays files more parts.1)
+            ∙ sym (map-push (of files) done x);
       }
 
   -- the next of a list of items
@@ -186,12 +181,6 @@ module _ {X Y : Type 0} (names : X → Texts) (of : Texts → X → Y) (same : (
   place_next old xs i x mid new ys y less is before one =
       let front : take (i + 1) xs ≡ take i xs ++ x ∷ [] = take_more xs i x less ∙ ap (λ l. take i xs ++ l ∷ []) (sym is) in
       rw front (place_more old (take i xs) x mid new ys y before one)
-
-pub page_same : (files : Texts) (page : PageText) (more : Texts)
-    → AllByRecursion (Known files) (named_on page)
-    → page_of (insert_all bytes_eq files more) page ≡ page_of files page
-unfolding page_of
-page_same files page more h = rw (map_same named_by layer_of layer_same files page.layers more h) refl
 
 -- ---- a mask
 
@@ -217,6 +206,7 @@ layer-placed old mid new layer file mask files index masked =
     record {
       files = masked.files ∙ ap (λ fs. insert_all bytes_eq fs (option_to_list layer.mask)) files;
       item = rw (there, same) refl;
+      stays = layer_stays layer;
     }
 
 pub page-placed : (old new : Texts) (page : PageText) (layers : List LayerData)
@@ -224,7 +214,11 @@ pub page-placed : (old new : Texts) (page : PageText) (layers : List LayerData)
     → Places named_on page_of old page new
     (record { name = page.name; colour = page.colour; spot = page.spot; layers = layers })
 unfolding page_of
-page-placed old new page layers all = record { files = all.files; item = rw all.items refl }
+page-placed old new page layers all = record {
+  files = all.files;
+  item = rw all.items refl;
+  stays = λ files more h. rw (all.stays files more h) refl;
+}
 
 pub page-shown : (old new : Texts) (page : PageText) (name : List ℕ) (colour spot : Bool)
     (from : List NamedLayer) (layers : List LayerData)

@@ -16,8 +16,8 @@ use Rattle.plan_json.specs.Data.{layer_files, mentioned}
 use Rattle.plan_parts.specs.Words.{AreDistinct}
 use Rattle.plan_parts.specs.Parts.{IsLayer, IsPage}
 use Rattle.plan_json.specs.Pages.{PageText}
-use Rattle.plan_json.specs.Files.{named_by, named_on, files_of, index_of, layer_of, page_of, pages_of}
-use Rattle.plan_json.proofs.Mentions.{Known, all_known, noted, stays, split, known_below, any_known, none_last, length_last}
+use Rattle.plan_json.specs.Files.{Known, named_by, named_on, files_of, index_of, layer_of, page_of, pages_of}
+use Rattle.plan_json.proofs.Mentions.{all_known, noted, stays, split, known_below, any_known, none_last, length_last}
 use Rattle.plan_json.proofs.SoundPages.{IsNamedLayer, IsPageText}
 use Rattle.plan_json.proofs.SoundZoning.{length-map}
 use Rattle.plan_json.proofs.SoundNames.{none_apart}

@@ -216,32 +216,9 @@ plan_by_sound spot path o p e =
 
 -- ---- the plan in memory
 
-abbrev pub written : FirstKeys → List TileData → List Screen → List CurveData → List MarkData → List PageData
-    → List SectionData → List ZoneData → List SiteData → List (List ℕ) → PlanData
-written f ts ss cs ms ps ses zs sts fs = record {
-  edition = f.edition;
-  dpi = f.dpi;
-  page_width = f.page_width;
-  page_height = f.page_height;
-  margins = f.margins;
-  gutter = f.gutter;
-  limit = f.limit;
-  tiles = ts;
-  screens = ss;
-  curves = cs;
-  marks = ms;
-  pages = ps;
-  sections = ses;
-  zones = zs;
-  sites = sts;
-  files = fs;
-}
-
-abbrev pub inks_of : List TileData → List Screen → List CurveData → List MarkData → Inks
-inks_of ts ss cs ms = record { tiles = ts; screens = ss; curves = cs; marks = ms }
-
-abbrev pub layout_of : List PageText → List SectionData → List ZoneData → List SiteData → Layout
-layout_of ps ses zs sts = record { pages = ps; sections = ses; zones = zs; sites = sts }
+-- a plan of these parts, with its pages and files as they are placed
+abbrev pub written : FirstKeys → Inks → Layout → List PageData → List (List ℕ) → PlanData
+written f i l pages files = record (joined f i l) { pages = pages; files = files }
 
 plan_made : (spot : Bool) (path : List ℕ) (o : Data) (f : FirstKeys) (i : Inks) (l : Layout) (width height : ℕ)
     → front path o ≡ Ok f → width ≡ width_over f.margins f.page_width f.gutter
@@ -253,25 +230,20 @@ plan_made spot path o f i l width height front-is width-is height-is inks-is lay
     let inks-there = rw (width-is, height-is) at inks-is in
     rw (front-is, inks-there, layout-is) refl
 
-joined_written : (f : FirstKeys) (ts : List TileData) (ss : List Screen) (cs : List CurveData)
-    (ms : List MarkData) (from : List PageText) (ses : List SectionData) (zs : List ZoneData)
-    (sts : List SiteData) (ps : List PageData) (fs : List (List ℕ)) → ps ≡ pages_of from → fs ≡ files_of from
-    → joined f (inks_of ts ss cs ms) (layout_of from ses zs sts) ≡ written f ts ss cs ms ps ses zs sts fs
+joined_written : (f : FirstKeys) (i : Inks) (l : Layout) (ps : List PageData) (fs : List (List ℕ))
+    → ps ≡ pages_of l.pages → fs ≡ files_of l.pages → joined f i l ≡ written f i l ps fs
 unfolding joined
-joined_written f ts ss cs ms from ses zs sts ps fs pages-are files-are = rw (pages-are, files-are) refl
+joined_written f i l ps fs pages-are files-are = rw (pages-are, files-are) refl
 
-pub plan_whole : (spot : Bool) (path : List ℕ) (o : Data) (f : FirstKeys) (i : Inks) (l : Layout)
-    (width height : ℕ) (ts : List TileData) (ss : List Screen) (cs : List CurveData) (ms : List MarkData)
-    (from : List PageText) (ses : List SectionData) (zs : List ZoneData) (sts : List SiteData)
-    (ps : List PageData) (fs : List (List ℕ)) → front path o ≡ Ok f
+pub plan_whole : (spot : Bool) (path : List ℕ) (o : Data) (f : FirstKeys) (i shown : Inks)
+    (l laid : Layout) (width height : ℕ) (ps : List PageData) (fs : List (List ℕ)) → front path o ≡ Ok f
     → width ≡ width_over f.margins f.page_width f.gutter → height ≡ height_over f.margins f.page_height
-    → inks spot width height path o ≡ Ok i → layout spot path o ≡ Ok l → inks_of ts ss cs ms ≡ i
-    → layout_of from ses zs sts ≡ l → ps ≡ pages_of from → fs ≡ files_of from
-    → (plan_by spot path o ≡ Ok (written f ts ss cs ms ps ses zs sts fs))
-    × IsPlan (written f ts ss cs ms ps ses zs sts fs)
-plan_whole spot path o f i l width height ts ss cs ms from ses zs sts ps fs front-is width-is height-is inks-is layout-is inks-shown layout-shown pages-are files-are =
+    → inks spot width height path o ≡ Ok i → layout spot path o ≡ Ok l → shown ≡ i → laid ≡ l
+    → ps ≡ pages_of laid.pages → fs ≡ files_of laid.pages
+    → (plan_by spot path o ≡ Ok (written f shown laid ps fs)) × IsPlan (written f shown laid ps fs)
+plan_whole spot path o f i shown l laid width height ps fs front-is width-is height-is inks-is layout-is inks-shown layout-shown pages-are files-are =
     let made = plan_made spot path o f i l width height front-is width-is height-is inks-is layout-is in
-    let same : joined f i l ≡ written f ts ss cs ms ps ses zs sts fs = rw (← inks-shown, ← layout-shown) (joined_written f ts ss cs ms from ses zs sts ps fs pages-are files-are) in
+    let same : joined f i l ≡ written f shown laid ps fs = rw (← inks-shown, ← layout-shown) (joined_written f shown laid ps fs pages-are files-are) in
     (made ∙ ap Ok same, subst IsPlan same (plan_by_sound spot path o (joined f i l) made))
 
 -- ---- the number of the plan

@@ -1,7 +1,7 @@
 -- The files of a plan: each once, in the order in which the layers name them.
-use Rattle.std.specs.Prelude.{◌≡◌, ℕ, List, [], ◌∷◌, map, Option, option_map, option_to_list}
+use Rattle.std.specs.Prelude.{◌≡◌, ℕ, ◌<◌, List, [], ◌∷◌, length, map, Option, option_map, option_to_list}
 use Rattle.std.proofs.Common.{Bor}
-use Rattle.std.specs.List.{flat_map, position_or_len}
+use Rattle.std.specs.List.{AllByRecursion, flat_map, position_or_len}
 use Rattle.std.specs.Str.{bytes_eq}
 use Rattle.indexmap.specs.IndexSet.{insert_all}
 use Rattle.plan_json.specs.declared.named.NamedLayer.{NamedLayer}
@@ -60,17 +60,29 @@ pages_of pages = map (page_of (files_of pages)) pages
 abbrev pub texts : List (Bor (List ℕ)) → List (List ℕ)
 texts keys = map (λ s. s.now) keys
 
--- the files of an item are added after the old ones, and the item refers to them by their new indexes
+-- a file is one of these
+unfoldable pub Known : List (List ℕ) → List ℕ → Type 0
+Known files s = index_of files s < length files
+
+-- what refers to these names by the indexes of known files is the same once more files are added
+abbrev pub Stays : {Y : Type 0} → List (List ℕ) → (List (List ℕ) → Y) → Type 0
+Stays names of = (files more : List (List ℕ)) → AllByRecursion (Known files) names
+    → of (insert_all bytes_eq files more) ≡ of files
+
+-- the files of an item are added after the old ones, and the item refers to them by their new indexes, which
+-- stay
 pub record Places {X Y : Type 0} (names : X → List (List ℕ)) (of : List (List ℕ) → X → Y)
     (old : List (List ℕ)) (x : X) (new : List (List ℕ)) (y : Y) : Type 0 where
   pub files : new ≡ insert_all bytes_eq old (names x)
   pub item : y ≡ of new x
+  pub stays : Stays (names x) (λ files. of files x)
 
 -- the same for a list of items
 pub record PlacesAll {X Y : Type 0} (names : X → List (List ℕ)) (of : List (List ℕ) → X → Y)
     (old : List (List ℕ)) (xs : List X) (new : List (List ℕ)) (ys : List Y) : Type 0 where
   pub files : new ≡ insert_all bytes_eq old (flat_map names xs)
   pub items : ys ≡ map (of new) xs
+  pub stays : Stays (flat_map names xs) (λ files. map (of files) xs)
 
 -- a mask is added, and given by its index
 pub record NotesMask (old : List (List ℕ)) (mask : Option (List ℕ)) (new : List (List ℕ)) (index : Option ℕ)

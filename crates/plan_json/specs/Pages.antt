@@ -38,20 +38,28 @@ kind = either (codes "contone") (codes "line")
 unfoldable pub paint : Reader Bool
 paint = either (codes "knockout") (codes "overprint")
 
+-- four numbers up to 65535, the first two from 0 and the last two from `low`
+abbrev pub four_numbers : ℕ → Reader (List ℕ)
+four_numbers low path d = do
+  items ← items_within 4 4 path d
+  a ← nth 0 (number 0 65535) path items
+  b ← nth 1 (number 0 65535) path items
+  c ← nth 2 (number low 65535) path items
+  d ← nth 3 (number low 65535) path items
+  Ok (a ∷ b ∷ c ∷ d ∷ [])
+
+-- what is read where the key is present; without the key there is none
+abbrev pub present : {A : Type 0} → Reader A → Reader (Option A)
+present read path d = do
+  found ← read path d
+  Ok (Some found)
+
 -- x and y from 0 to 65535, width and height from 1 to 65535
 unfoldable pub crop : Reader (Option (List ℕ))
-crop path d = do
-  items ← items_within 4 4 path d
-  x ← nth 0 (number 0 65535) path items
-  y ← nth 1 (number 0 65535) path items
-  width ← nth 2 (number 1 65535) path items
-  height ← nth 3 (number 1 65535) path items
-  Ok (Some (x ∷ y ∷ width ∷ height ∷ []))
+crop = present (four_numbers 1)
 
 unfoldable pub mask : Reader (Option (List ℕ))
-mask path d = do
-  s ← file_name path d
-  Ok (Some s)
+mask = present file_name
 
 -- a fifth number, or 0 if there is none
 abbrev pub fifth : List ℕ → Items → Read ℕ

@@ -11,7 +11,7 @@ use Rattle.plan_json.specs.Printed.{Inks, Layout}
 use Rattle.plan_parts.specs.Reading.{Read, Reader, ◌>>=◌, ◌>>◌, must, some_or, at_key, object_with, required}
 use Rattle.plan_parts.specs.Reading.{optional, number, name, items_within, nth}
 use Rattle.plan_parts.specs.Printing.{tiles, screens, bayer_screens, curves, identities, marks}
-use Rattle.plan_json.specs.Pages.{pages, page_names}
+use Rattle.plan_json.specs.Pages.{four_numbers, pages, page_names}
 use Rattle.plan_json.specs.Files.{files_of, pages_of}
 use Rattle.plan_json.specs.Zoning.{sections, zones, zone_names, sites}
 
@@ -27,13 +27,7 @@ page_size path d = do
 
 -- left, top, right and bottom
 unfoldable pub margins : Reader (List ℕ)
-margins path d = do
-  items ← items_within 4 4 path d
-  left ← nth 0 (number 0 65535) path items
-  top ← nth 1 (number 0 65535) path items
-  right ← nth 2 (number 0 65535) path items
-  bottom ← nth 3 (number 0 65535) path items
-  Ok (left ∷ top ∷ right ∷ bottom ∷ [])
+margins = four_numbers 0
 
 -- the margins if the key is absent
 abbrev pub no_margins : List ℕ

@@ -1,9 +1,10 @@
 -- Reading sections, zones and sites, each by its table.
-use Rattle.std.specs.Prelude.{ℕ, ◌%◌, ◌==◌, ◌&&◌, Bool, not, List, [], ◌∷◌, length, map, Option, Some, None}
+use Rattle.std.specs.Prelude.{ℕ, ◌%◌, ◌==◌, ◌&&◌, Bool, not, List, [], ◌∷◌, length, map, Option, None}
 use Rattle.std.specs.Prelude.{Ok, slice_index_or, codes}
 use Rattle.std.specs.List.{list_any}
 use Rattle.plan_parts.specs.declared.fault.PlanFault.TheVariants.{Range, Repeat}
 use Rattle.plan_json.specs.Data.{SectionData, ZoneData, ReplaceData, SiteData}
+use Rattle.plan_json.specs.Pages.{present}
 use Rattle.plan_parts.specs.Reading.{Reader, ◌>>=◌, ◌>>◌, must, object_with, required, optional, number}
 use Rattle.plan_parts.specs.Reading.{new_name, defined, count_of, items_within, each_after, list_of}
 
@@ -83,9 +84,7 @@ zones pages sections = list_of 0 16 (zone pages sections)
 -- ---- sites
 
 unfoldable pub site_zone : List (List ℕ) → Reader (Option ℕ)
-site_zone zones path d = do
-  zone ← defined zones path d
-  Ok (Some zone)
+site_zone zones = present (defined zones)
 
 abbrev pub site_keys : List (List ℕ)
 site_keys = codes "name" ∷ codes "zone" ∷ []

@@ -1,6 +1,6 @@
 // The files of a plan, each once, in the order in which the layers name them, and the layers with their files
 // by index.
-ghost use Rattle.std.specs.Prelude.{◌≡◌, IfOk, OnOk, map};
+ghost use Rattle.std.specs.Prelude.{◌≡◌, ℕ, IfOk, List, OnOk, map};
 ghost use Rattle.std.specs.List.{flat_map};
 ghost use Rattle.std.specs.Str.{bytes_eq};
 ghost use Rattle.indexmap.specs.IndexSet.{insert_all, insert_key};
@@ -34,70 +34,90 @@ fn noted_mask<'a>(
     }
 }
 
-fn placed<'a>(files: &mut IndexSet<&'a str>, layer: &'a NamedLayer) -> Result<PlanLayer, NoMemory>
-    ensures { IfOk result (spec.Places spec.named_by spec.layer_of
-        (spec.texts files.old.keys) layer.now (spec.texts files.new.keys)) }
-{
-    let file = noted(files, layer.file.as_str())?;
-    let mask = noted_mask(files, &layer.mask)?;
-    Ok(PlanLayer {
-        line: layer.line,
-        file,
-        x: layer.x,
-        y: layer.y,
-        scale: layer.scale,
-        crop: layer.crop,
-        mask,
-        overprint: layer.overprint,
-        ink: layer.ink,
-    })
+/// An item of a plan that names its files, and that has them by index once it is placed.
+trait Placed {
+    /// The type of the placed item.
+    type As: Drop;
+
+    // The files that it names, in order.
+    ghost names: { Self → List (List ℕ) };
+
+    // The placed item, by the list of files.
+    ghost placed_with: { List (List ℕ) → Self → Self.As };
+
+    /// Adds its files to the set, and returns it with their indexes.
+    fn placed<'a>(
+        &'a self,
+        alloc: Global,
+        files: &mut IndexSet<&'a str>,
+    ) -> Result<Self::As, NoMemory>
+        ensures { IfOk result (spec.Places names placed_with
+            (spec.texts files.old.keys) self.now (spec.texts files.new.keys)) };
 }
 
-fn placed_layers<'a>(
-    alloc: Global,
-    files: &mut IndexSet<&'a str>,
-    layers: &'a [NamedLayer],
-) -> Result<Vec<PlanLayer>, NoMemory>
-    ensures { IfOk result (λ v. spec.PlacesAll spec.named_by spec.layer_of
-        (spec.texts files.old.keys) layers.now (spec.texts files.new.keys) v.items) }
-{
-    let mut all = Vec::new(alloc);
-    for layer in layers {
-        let one = placed(files, layer)?;
-        all.push(one)?;
+impl Placed for NamedLayer {
+    type As = PlanLayer;
+
+    ghost names = { spec.named_by };
+
+    ghost placed_with = { spec.layer_of };
+
+    fn placed<'a>(
+        &'a self,
+        _alloc: Global,
+        files: &mut IndexSet<&'a str>,
+    ) -> Result<PlanLayer, NoMemory> {
+        let file = noted(files, self.file.as_str())?;
+        let mask = noted_mask(files, &self.mask)?;
+        Ok(PlanLayer {
+            line: self.line,
+            file,
+            x: self.x,
+            y: self.y,
+            scale: self.scale,
+            crop: self.crop,
+            mask,
+            overprint: self.overprint,
+            ink: self.ink,
+        })
     }
-    Ok(all)
 }
 
-fn placed_page<'a>(
-    alloc: Global,
-    files: &mut IndexSet<&'a str>,
-    page: &'a NamedPage,
-) -> Result<Page, NoMemory>
-    ensures { IfOk result (spec.Places spec.named_on spec.page_of
-        (spec.texts files.old.keys) page.now (spec.texts files.new.keys)) }
-{
-    let name = PathText::of(alloc, page.name.as_str())?;
-    let layers = placed_layers(alloc, files, page.layers.as_slice())?;
-    Ok(Page {
-        name,
-        colour: page.colour,
-        spot: page.spot,
-        layers,
-    })
+impl Placed for NamedPage {
+    type As = Page;
+
+    ghost names = { spec.named_on };
+
+    ghost placed_with = { spec.page_of };
+
+    fn placed<'a>(
+        &'a self,
+        alloc: Global,
+        files: &mut IndexSet<&'a str>,
+    ) -> Result<Page, NoMemory> {
+        let name = PathText::of(alloc, self.name.as_str())?;
+        let layers = placed_all(alloc, files, self.layers.as_slice())?;
+        Ok(Page {
+            name,
+            colour: self.colour,
+            spot: self.spot,
+            layers,
+        })
+    }
 }
 
-fn placed_pages<'a>(
+// Places the items in order.
+fn placed_all<'a, T: Placed>(
     alloc: Global,
     files: &mut IndexSet<&'a str>,
-    pages: &'a [NamedPage],
-) -> Result<Vec<Page>, NoMemory>
-    ensures { IfOk result (λ v. spec.PlacesAll spec.named_on spec.page_of
-        (spec.texts files.old.keys) pages.now (spec.texts files.new.keys) v.items) }
+    items: &'a [T],
+) -> Result<Vec<T::As>, NoMemory>
+    ensures { IfOk result (λ v. spec.PlacesAll T.names T.placed_with
+        (spec.texts files.old.keys) items.now (spec.texts files.new.keys) v.items) }
 {
     let mut all = Vec::new(alloc);
-    for page in pages {
-        let one = placed_page(alloc, files, page)?;
+    for item in items {
+        let one = item.placed(alloc, files)?;
         all.push(one)?;
     }
     Ok(all)
@@ -123,7 +143,7 @@ pub(crate) fn pages_and_files(
     ensures files { IfOk result (λ r. r.1.items ≡ spec.files_of pages.now) }
 {
     let mut files = IndexSet::new(alloc);
-    let placed = placed_pages(alloc, &mut files, pages)?;
+    let placed = placed_all(alloc, &mut files, pages)?;
     let names = copies(alloc, files.as_slice())?;
     Ok((placed, names))
 }

@@ -1,10 +1,12 @@
 // The first keys of a plan: edition, resolution, and the sizes of pages and plates.
-ghost use Rattle.std.specs.Prelude.{◌≡◌, ◌≤◌, IfOk};
+ghost use Rattle.std.specs.Prelude.{◌≡◌, ◌≤◌, IfOk, codes};
 ghost use Rattle.plan_json.specs.Data.{width_over, height_over};
 ghost use Rattle.plan_parts.specs.Gives.{Gives};
 ghost use Rattle.plan_parts.specs.Node.{inside};
+ghost use Rattle.plan_parts.specs.Reading.{optional};
 ghost use Rattle.plan_json.specs.PlanOf as spec;
 
+use crate::four_numbers::FourNumbers;
 use plan_parts::{Name, Node, Number, Object, PlanFault, Reader};
 use pr_base::PathText;
 
@@ -39,23 +41,12 @@ impl Reader for PageSizeReader {
 }
 
 // Reads the margins of a plate.
-#[derive(Drop)]
-struct MarginsReader;
-
-impl Reader for MarginsReader {
-    type Out = [u32; 4];
-
-    ghost reads = { λ _. spec.margins };
-
-    #[tactic(auto, unfolding(crate::specs::PlanOf::margins))]
-    fn read(&self, node: Node<'_>) -> Result<[u32; 4], PlanFault> {
-        let items = node.items(4, 4)?;
-        let left = items.required(0, &Number(0, 65535))? as u32;
-        let top = items.required(1, &Number(0, 65535))? as u32;
-        let right = items.required(2, &Number(0, 65535))? as u32;
-        let bottom = items.required(3, &Number(0, 65535))? as u32;
-        Ok([left, top, right, bottom])
-    }
+#[tactic(auto, unfolding(crate::specs::PlanOf::margins))]
+fn margins_in(o: &Object<'_>) -> Result<[u32; 4], PlanFault>
+    ensures { Gives (λ m. m) result
+        (inside o.now (optional (codes "margins") spec.no_margins spec.margins)) }
+{
+    o.optional("margins", [0, 0, 0, 0], &FourNumbers { low: 0 })
 }
 
 // Returns a plate's width: two pages, the gutter, and the left and right margins.
@@ -88,7 +79,7 @@ pub(crate) fn first_keys_in(o: &Object<'_>) -> Result<FirstKeys, PlanFault>
     let edition = o.required("edition", &Name)?;
     let dpi = o.required("dpi", &Number(1, 10000))? as u32;
     let page = o.required("page", &PageSizeReader)?;
-    let margins = o.optional("margins", [0, 0, 0, 0], &MarginsReader)?;
+    let margins = margins_in(o)?;
     let gutter = o.optional("gutter", 0, &Number(0, 65535))? as u32;
     if !fits_plate(&margins, page.0, page.1, gutter) {
         return Err(PlanFault::Range(o.path_to("page")?));

@@ -6,6 +6,7 @@
 
 mod files;
 mod first_keys;
+mod four_numbers;
 mod laws;
 mod named;
 mod plan;

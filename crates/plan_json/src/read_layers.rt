@@ -5,6 +5,7 @@ ghost use Rattle.plan_parts.specs.Node.{inside};
 ghost use Rattle.plan_parts.specs.Reading.{required};
 ghost use Rattle.plan_json.specs.Pages as spec;
 
+use crate::four_numbers::FourNumbers;
 use crate::named::{NamedLayer, Painting, Placing};
 use plan_parts::{FileName, ItemReader, ListOf, Node, Number, Object, PlanFault, Reader};
 use pr_base::PathText;
@@ -42,12 +43,7 @@ impl Reader for CropReader {
 
     #[tactic(auto, unfolding(crate::specs::Pages::crop))]
     fn read(&self, node: Node<'_>) -> Result<Option<[u32; 4]>, PlanFault> {
-        let items = node.items(4, 4)?;
-        let x = items.required(0, &Number(0, 65535))? as u32;
-        let y = items.required(1, &Number(0, 65535))? as u32;
-        let width = items.required(2, &Number(1, 65535))? as u32;
-        let height = items.required(3, &Number(1, 65535))? as u32;
-        Ok(Some([x, y, width, height]))
+        Ok(Some(FourNumbers { low: 1 }.read(node)?))
     }
 }
 

@@ -35,22 +35,22 @@ impl Reader for SectionPagesReader<'_> {
     }
 }
 
-// Reads a section of a plan with these pages.
+// Reads a section, and its pages by their reader.
 #[derive(Drop)]
 struct SectionReader<'x> {
-    pages: &'x [NamedPage],
+    pages: SectionPagesReader<'x>,
 }
 
 impl ItemReader for SectionReader<'_> {
     type Item = Section;
 
-    ghost reads = { λ plan. spec.section (page_names plan.pages.now) };
+    ghost reads = { λ section. spec.section (page_names section.pages.pages.now) };
 
     #[tactic(auto, unfolding(crate::specs::Zoning::section))]
     fn read_item(&self, earlier: &[Section], node: Node<'_>) -> Result<Section, PlanFault> {
         let o = node.object(&["name", "pages"])?;
         let name = o.required("name", &NewName(earlier))?;
-        let pages = o.required("pages", &SectionPagesReader { pages: self.pages })?;
+        let pages = o.required("pages", &self.pages)?;
         Ok(Section { name, pages })
     }
 }
@@ -61,5 +61,6 @@ pub(crate) fn sections_in(o: &Object<'_>, pages: &[NamedPage]) -> Result<Vec<Sec
     ensures { Gives (λ v. v.items) result
         (inside o.now (required (codes "sections") (spec.sections (page_names pages.now)))) }
 {
+    let pages = SectionPagesReader { pages };
     o.required("sections", &ListOf(1, 8, SectionReader { pages }))
 }

@@ -25,22 +25,22 @@ impl Reader for SiteZoneReader<'_> {
     }
 }
 
-// Reads a site of a plan with these zones.
+// Reads a site, and its zone by the zone's reader.
 #[derive(Drop)]
 struct SiteReader<'x> {
-    zones: &'x [Zone],
+    zone: SiteZoneReader<'x>,
 }
 
 impl ItemReader for SiteReader<'_> {
     type Item = PlanSite;
 
-    ghost reads = { λ plan. spec.site (spec.zone_names plan.zones.now) };
+    ghost reads = { λ site. spec.site (spec.zone_names site.zone.zones.now) };
 
     #[tactic(auto, unfolding(crate::specs::Zoning::site))]
     fn read_item(&self, earlier: &[PlanSite], node: Node<'_>) -> Result<PlanSite, PlanFault> {
         let o = node.object(&["name", "zone"])?;
         let name = o.required("name", &NewName(earlier))?;
-        let zone = o.optional("zone", None, &SiteZoneReader { zones: self.zones })?;
+        let zone = o.optional("zone", None, &self.zone)?;
         Ok(PlanSite { name, zone })
     }
 }
@@ -51,5 +51,6 @@ pub(crate) fn sites_in(o: &Object<'_>, zones: &[Zone]) -> Result<Vec<PlanSite>, 
     ensures { Gives (λ v. v.items) result
         (inside o.now (required (codes "sites") (spec.sites (spec.zone_names zones.now)))) }
 {
-    o.required("sites", &ListOf(1, 16, SiteReader { zones }))
+    let zone = SiteZoneReader { zones };
+    o.required("sites", &ListOf(1, 16, SiteReader { zone }))
 }

@@ -52,7 +52,7 @@ fn page_count(sections: &[Section], section: usize) -> usize
 }
 
 // Reads a replacement: a page of one of these sections, and the one of these pages that is printed instead.
-#[derive(Drop)]
+#[derive(Clone, Copy)]
 struct ReplaceReader<'x> {
     pages: &'x [NamedPage],
     sections: &'x [Section],
@@ -83,27 +83,22 @@ impl ItemReader for ReplaceReader<'_> {
     }
 }
 
-// Reads a zone of a plan with these pages and sections.
+// Reads a zone, and its replacements by their reader.
 #[derive(Drop)]
 struct ZoneReader<'x> {
-    pages: &'x [NamedPage],
-    sections: &'x [Section],
+    replace: ReplaceReader<'x>,
 }
 
 impl ItemReader for ZoneReader<'_> {
     type Item = Zone;
 
-    ghost reads = { λ plan. spec.zone (page_names plan.pages.now) plan.sections.now };
+    ghost reads = { λ zone. spec.zone (page_names zone.replace.pages.now) zone.replace.sections.now };
 
     #[tactic(auto, unfolding(crate::specs::Zoning::zone, crate::specs::Zoning::replaced))]
     fn read_item(&self, earlier: &[Zone], node: Node<'_>) -> Result<Zone, PlanFault> {
         let o = node.object(&["name", "replace"])?;
         let name = o.required("name", &NewName(earlier))?;
-        let item = ReplaceReader {
-            pages: self.pages,
-            sections: self.sections,
-        };
-        let replace = o.required("replace", &ListOf(0, 1024, item))?;
+        let replace = o.required("replace", &ListOf(0, 1024, self.replace))?;
         Ok(Zone { name, replace })
     }
 }
@@ -119,6 +114,10 @@ pub(crate) fn zones_in(
     ensures { Gives (λ v. v.items) result (inside o.now
         (optional (codes "zones") [] (spec.zones (page_names pages.now) sections.now))) }
 {
-    let item = ZoneReader { pages, sections };
-    o.optional("zones", Vec::new(o.alloc), &ListOf(0, 16, item))
+    let replace = ReplaceReader { pages, sections };
+    o.optional(
+        "zones",
+        Vec::new(o.alloc),
+        &ListOf(0, 16, ZoneReader { replace }),
+    )
 }
