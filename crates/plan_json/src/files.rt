@@ -12,8 +12,11 @@ use plan_parts::{Page, PlanLayer};
 use pr_base::{NoMemory, PathText};
 use std::alloc::Global;
 
+/// The files so far, each once.
+type Files<'a> = IndexSet<&'a str>;
+
 // Adds a file to the set, at the end if it is new, and returns its index.
-fn noted<'a>(files: &mut IndexSet<&'a str>, file: &'a str) -> Result<usize, NoMemory>
+fn noted<'a>(files: &mut Files<'a>, file: &'a str) -> Result<usize, NoMemory>
     ensures files { OnOk result
         (spec.texts files.new.keys ≡ insert_key bytes_eq (spec.texts files.old.keys) file.now) }
     ensures index { IfOk result (λ i. i ≡ spec.index_of (spec.texts files.old.keys) file.now) }
@@ -23,7 +26,7 @@ fn noted<'a>(files: &mut IndexSet<&'a str>, file: &'a str) -> Result<usize, NoMe
 }
 
 fn noted_mask<'a>(
-    files: &mut IndexSet<&'a str>,
+    files: &mut Files<'a>,
     mask: &'a Option<PathText>,
 ) -> Result<Option<usize>, NoMemory>
     ensures { IfOk result (spec.NotesMask (spec.texts files.old.keys) mask.now (spec.texts files.new.keys)) }
@@ -46,11 +49,7 @@ trait Placed {
     ghost placed_with: { List (List ℕ) → Self → Self.As };
 
     /// Adds its files to the set, and returns it with their indexes.
-    fn placed<'a>(
-        &'a self,
-        alloc: Global,
-        files: &mut IndexSet<&'a str>,
-    ) -> Result<Self::As, NoMemory>
+    fn placed<'a>(&'a self, alloc: Global, files: &mut Files<'a>) -> Result<Self::As, NoMemory>
         ensures { IfOk result (spec.Places names placed_with
             (spec.texts files.old.keys) self.now (spec.texts files.new.keys)) };
 }
@@ -62,11 +61,7 @@ impl Placed for NamedLayer {
 
     ghost placed_with = { spec.layer_of };
 
-    fn placed<'a>(
-        &'a self,
-        _alloc: Global,
-        files: &mut IndexSet<&'a str>,
-    ) -> Result<PlanLayer, NoMemory> {
+    fn placed<'a>(&'a self, _alloc: Global, files: &mut Files<'a>) -> Result<PlanLayer, NoMemory> {
         let file = noted(files, self.file.as_str())?;
         let mask = noted_mask(files, &self.mask)?;
         Ok(PlanLayer {
@@ -90,11 +85,7 @@ impl Placed for NamedPage {
 
     ghost placed_with = { spec.page_of };
 
-    fn placed<'a>(
-        &'a self,
-        alloc: Global,
-        files: &mut IndexSet<&'a str>,
-    ) -> Result<Page, NoMemory> {
+    fn placed<'a>(&'a self, alloc: Global, files: &mut Files<'a>) -> Result<Page, NoMemory> {
         let name = PathText::of(alloc, self.name.as_str())?;
         let layers = placed_all(alloc, files, self.layers.as_slice())?;
         Ok(Page {
@@ -109,7 +100,7 @@ impl Placed for NamedPage {
 // Places the items in order.
 fn placed_all<'a, T: Placed>(
     alloc: Global,
-    files: &mut IndexSet<&'a str>,
+    files: &mut Files<'a>,
     items: &'a [T],
 ) -> Result<Vec<T::As>, NoMemory>
     ensures { IfOk result (λ v. spec.PlacesAll T.names T.placed_with
