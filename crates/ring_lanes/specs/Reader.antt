@@ -1,8 +1,8 @@
 -- What contracts see of a reader's end of a ring, the results of its calls, and its invariant.
-use Rattle.std.specs.Prelude.{◌≡◌, ℕ, ◌+◌, ◌<◌, ◌≤◌, Bool, true, false, not, List, Some, slice_get}
+use Rattle.std.specs.Prelude.{◌≡◌, ℕ, ◌+◌, ◌<◌, ◌≤◌, Bool, true, not, List, Some, slice_get}
 use Rattle.atomic_table.specs.Seated.{TableId}
 use Rattle.ring_rule.specs.declared.view.RingNumbers.{RingNumbers}
-use Rattle.ring_rule.specs.Marks.{ReaderMark}
+use Rattle.ring_rule.specs.Marks.{ReaderMark, new_reader_mark}
 use Rattle.ring_lanes.specs.declared.answer.NotYet.{NotYet}
 use Rattle.ring_lanes.specs.declared.numbers.Numbers.{Numbers}
 use Rattle.ring_lanes.specs.declared.source.Source.{Source}
@@ -40,16 +40,7 @@ reader_state m = record {
 
 -- reader r before the first call
 abbrev pub new_reader_state : TableId → RingNumbers → ℕ → ReaderState
-new_reader_state table ring r = record {
-  table = table;
-  ring = ring;
-  number = r;
-  cursor = 0;
-  left = false;
-  held = false;
-  seen = 0;
-  loads = 0;
-}
+new_reader_state table ring r = reader_state (new_reader_mark table ring r)
 
 -- where the reader takes its rows
 abbrev pub source_of : ReaderState → Source

@@ -1,11 +1,11 @@
 -- What contracts see of the writer's end of a ring, the results of its calls, and its invariant.
-use Rattle.std.specs.Prelude.{◌≡◌, ◌≢◌, ℕ, ◌+◌, ◌<◌, ◌≤◌, ◌⊎◌, not, nat_eq, false, List, length, replicate}
+use Rattle.std.specs.Prelude.{◌≡◌, ◌≢◌, ℕ, ◌+◌, ◌<◌, ◌≤◌, ◌⊎◌, not, nat_eq, false, List, length}
 use Rattle.std.specs.Prelude.{count_by, Option, Some, slice_index, slice_index_or}
 use Rattle.atomic_table.specs.Seated.{TableId}
 use Rattle.ring_rule.specs.declared.view.RingNumbers.{RingNumbers}
 use Rattle.ring_rule.specs.declared.view.WriterView.{WriterView}
 use Rattle.ring_rule.specs.Views.{left_word, cursor_in}
-use Rattle.ring_rule.specs.Marks.{WriterMark}
+use Rattle.ring_rule.specs.Marks.{WriterMark, new_writer_mark}
 use Rattle.ring_lanes.specs.declared.answer.Full.{Full}
 use Rattle.ring_lanes.specs.declared.numbers.Numbers.{Numbers}
 use Rattle.ring_lanes.specs.Numbers.{HasNumbers}
@@ -32,13 +32,7 @@ writer_state m = record {
 
 -- the writer's end before the first call
 abbrev pub new_writer_state : TableId → RingNumbers → WriterState
-new_writer_state table ring = record {
-  table = table;
-  ring = ring;
-  head = 0;
-  known = replicate ring.readers 0;
-  loads = replicate ring.readers 0;
-}
+new_writer_state table ring = writer_state (new_writer_mark table ring)
 
 -- the cursor of reader r by these words; None if they say that it left
 abbrev pub cursor_known : List ℕ → ℕ → Option ℕ

@@ -152,7 +152,7 @@ impl<'r, D: Deal> Reader<'r, D> {
         ensures note { result ≡ told_by_reader self.old }
         ensures same { self.new ≡ self.old }
     {
-        CursorNote::of(self.seat.note())
+        self.seat.note()
     }
 
     /// Takes in a note of this ring's writer, and loads the head.
@@ -160,11 +160,11 @@ impl<'r, D: Deal> Reader<'r, D> {
     pub fn learn(&mut self, note: HeadNote<D>)
         requires ring { note.table ≡ self.old.table }
         requires joined { self.old.left ≡ false }
-        ensures head { note.head ≤ self.new.seen }
-        ensures joined { (k : ℕ) × (cursor_known note.known self.old.number ≡ Some k) }
+        ensures head { note.note.head ≤ self.new.seen }
+        ensures joined { (k : ℕ) × (cursor_known note.note.known self.old.number ≡ Some k) }
         ensures grows { self.old.seen ≤ self.new.seen }
         ensures same { self.new ≡ record self.old { seen = self.new.seen; loads = self.old.loads + 1 } }
     {
-        self.seen = self.seat.meet(note.into_seat());
+        self.seen = self.seat.meet(note);
     }
 }

@@ -168,20 +168,20 @@ impl<'r, D: Deal> Writer<'r, D> {
         ensures note { result ≡ told_by_writer self.old }
         ensures same { self.new ≡ self.old }
     {
-        HeadNote::of(self.seat.note())
+        self.seat.note()
     }
 
     /// Takes in a note of one of this ring's readers, and loads that reader's cursor.
     pub fn learn(&mut self, note: CursorNote<D>)
         requires { note.table ≡ self.old.table }
-        ensures number { note.number < self.old.ring.readers }
-        ensures cursor { (k : ℕ) → cursor_known self.new.known note.number ≡ Some k → note.cursor ≤ k }
-        ensures left { note.left ≡ true → cursor_known self.new.known note.number ≡ None }
-        ensures loaded { IsLoaded self.old self.new note.number }
-        ensures others { OthersStand self.old self.new note.number }
+        ensures number { note.note.number < self.old.ring.readers }
+        ensures cursor { (k : ℕ) → cursor_known self.new.known note.note.number ≡ Some k
+            → note.note.taken ≤ k }
+        ensures left { note.note.left ≡ true → cursor_known self.new.known note.note.number ≡ None }
+        ensures loaded { IsLoaded self.old self.new note.note.number }
+        ensures others { OthersStand self.old self.new note.note.number }
         ensures same { self.new ≡ record self.old { known = self.new.known; loads = self.new.loads } }
     {
-        let note = note.into_seat();
         let number = note.number();
         let word = self.seat.meet(note);
         self.known[number as usize] = word;

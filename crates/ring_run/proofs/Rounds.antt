@@ -7,7 +7,8 @@ use Rattle.std.proofs.lemmas.Bool.{cases_Bool, cases_lt, ltb-false, ltb-true}
 use Rattle.std.proofs.lemmas.Option.{same_Some, slice_get-get_or, slice_get-map, slice_get_within}
 use Rattle.ring_rule.specs.declared.view.RingNumbers.{RingNumbers}
 use Rattle.ring_rule.specs.Views.{cursor_in}
-use Rattle.ring_lanes.specs.Note.{CursorNoteState, told_by_reader}
+use Rattle.ring_rule.specs.Marks.{CursorNoteMark}
+use Rattle.ring_lanes.specs.Note.{told_by_reader}
 use Rattle.ring_lanes.specs.Reader.{ReaderState}
 use Rattle.ring_lanes.specs.Writer.{HasRoom, IsLoaded, OthersStand, WriterState, cursor_known}
 use Rattle.pr_rack.specs.Told.{RackTells}
@@ -111,16 +112,16 @@ noted_more old new number loaded others r k is =
       same_or : (a b : ℕ) → (a ≡ b) ⊎ (a ≢ b)
       same_or a b = ⊎_elim (λ (less : a < b). inr (λ e. omega (arith, less, e))) (λ (more : b ≤ a). ⊎_elim (λ (less' : b < a). inr (λ e. omega (arith, less', e))) (λ (more' : a ≤ b). inl (omega (arith, more, more'))) (cases_lt b a)) (cases_lt a b)
 
-pub knows_more : (old new : WriterState) (seats : List SeatData) (i : ℕ) (seat : SeatData) (note : CursorNoteState) → slice_get seats i ≡ Some seat → note ≡ told_by_reader seat.reader → ((k : ℕ) → cursor_known new.known note.number ≡ Some k → note.cursor ≤ k)
-    → (note.left ≡ true → cursor_known new.known note.number ≡ None) → KnowsMore old.known new.known → KnowsUpTo old.known seats i → KnowsUpTo new.known seats (i + 1)
-knows_more old new seats i seat note there is cursor left more upto j y less at =
+pub knows_more : (old new : WriterState) (seats : List SeatData) (i : ℕ) (seat : SeatData) (mark : CursorNoteMark) → slice_get seats i ≡ Some seat → mark ≡ told_by_reader seat.reader → ((k : ℕ) → cursor_known new.known mark.note.number ≡ Some k → mark.note.taken ≤ k)
+    → (mark.note.left ≡ true → cursor_known new.known mark.note.number ≡ None) → KnowsMore old.known new.known → KnowsUpTo old.known seats i → KnowsUpTo new.known seats (i + 1)
+knows_more old new seats i seat mark there is cursor left more upto j y less at =
     ⊎_elim
     (λ (before : j < i). knows_on old.known new.known y.reader more (upto j y before at))
     (λ (from : i ≤ j).
     let index : j ≡ i = omega (arith, from, less) in
     let same : seat ≡ y = same_Some seat y (sym there ∙ ap (slice_get seats) (sym index) ∙ at) in
     subst (λ (z : SeatData). Knows new.known z.reader) same
-    (subst (λ (n : CursorNoteState). ((k : ℕ) → cursor_known new.known n.number ≡ Some k → n.cursor ≤ k) → (n.left ≡ true → cursor_known new.known n.number ≡ None) → Knows new.known seat.reader) (sym is)
+    (subst (λ (m : CursorNoteMark). ((k : ℕ) → cursor_known new.known m.note.number ≡ Some k → m.note.taken ≤ k) → (m.note.left ≡ true → cursor_known new.known m.note.number ≡ None) → Knows new.known seat.reader) (sym is)
     (λ c l. record { left = l; cursor = c }) cursor left))
     (cases_lt j i)
 

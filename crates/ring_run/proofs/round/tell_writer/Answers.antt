@@ -2,7 +2,7 @@ use Rattle.std.proofs.Common.{◌≡◌, ◌<◌, length, set, get_or, Some, sym
 use Rattle.std.specs.Prelude.{slice_get}
 use Rattle.std.proofs.lemmas.List.{set-get_or}
 use Rattle.std.proofs.lemmas.Option.{slice_get-get_or, slice_get_within}
-use Rattle.ring_lanes.specs.Note.{CursorNoteState}
+use Rattle.ring_rule.specs.Marks.{CursorNoteMark}
 use Rattle.ring_lanes.specs.Writer.{WriterState}
 use Rattle.ring_run.proofs.Rounds.{knows_more, more_again, more_same, noted_more}
 use Rattle.ring_run.proofs.round.tell_writer.Given.{Over}
@@ -18,7 +18,7 @@ there g c =
 pub learn-requires : goal.learn-requires
 learn-requires g c =
     let here = there g (goal.at.learn-requires g c).After-index-seats-i in
-    ap (λ (n : CursorNoteState). n.table) c.note-note.ensures.note ∙ c.requires.table c.loop-i.i (get_or c.loop-i.seats c.loop-i.i c.index-seats-i.result) here
+    ap (λ (m : CursorNoteMark). m.table) c.note-note.ensures.note ∙ c.requires.table c.loop-i.i (get_or c.loop-i.seats c.loop-i.i c.index-seats-i.result) here
     ∙ sym (ap (λ (w : WriterState). w.table) c.loop-i.invariant.same)
 
 pub loop-i-init : goal.loop-i-init
@@ -35,7 +35,7 @@ loop-i-preserved g c =
     let i = c.loop-i.i in
     let end = get_or c.loop-i.seats i c.index-seats-i.result in
     let here = there g (goal.at.loop-i-preserved g c).After-index-seats-i in
-    let more = noted_more c.loop-i.writer c.learn.new.self c.note-note.result.number c.learn.ensures.loaded c.learn.ensures.others in
+    let more = noted_more c.loop-i.writer c.learn.new.self c.note-note.result.note.number c.learn.ensures.loaded c.learn.ensures.others in
     record {
       seats = ap (λ (s : _). set c.loop-i.seats i s) c.note-note.ensures.same ∙ set-get_or c.loop-i.seats i c.index-seats-i.result ∙ it.seats;
       same = c.learn.ensures.same ∙ ap {A = WriterState} (λ w. record w { known = c.learn.new.self.known; loads = c.learn.new.self.loads }) it.same;
