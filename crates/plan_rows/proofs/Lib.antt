@@ -12,5 +12,5 @@ pub mod PathLemmas
 pub mod Places
 pub mod RowLemmas
 pub mod SitesOf
-mod SmallPlan
+pub mod SmallPlan
 pub mod SpotLemmas

@@ -13,10 +13,10 @@ use Rattle.plan_rows.specs.Rows.{places_in, row_places, keeps_row, place_of}
 use Rattle.plan_rows.specs.Plates.{PlateOf, site_plates, plate_rows}
 use Rattle.plan_rows.specs.Paths.{path_of}
 
-page : List ℕ → PageData
+pub page : List ℕ → PageData
 page name = record { name = name; colour = false; spot = false; layers = [] }
 
-abbrev small : PlanData
+abbrev pub small : PlanData
 small = record {
   edition = codes "E1";
   dpi = 1200;

@@ -123,6 +123,22 @@ impl RowPlan {
         &self.groups
     }
 
+    /// Returns the number of groups.
+    pub fn group_count(&self) -> usize
+        ensures count { result ≡ length self.now.groups }
+        ensures most { result ≤ 8192 }
+    {
+        self.groups.len()
+    }
+
+    /// Lends the group with this index.
+    pub fn group(&self, index: usize) -> &Group
+        requires { index < length self.now.groups }
+        ensures { slice_get self.now.groups index ≡ Some result.now }
+    {
+        &self.groups[index]
+    }
+
     /// Returns the number of rows.
     pub fn total(&self) -> u64
         ensures total { result ≡ length (places_in self.now) }
@@ -139,7 +155,7 @@ impl RowPlan {
         ensures y { result.y < self.now.height }
         ensures slot { result.slot ≡ slot_of result.ink }
     {
-        let index = self.group_at(n);
+        let index = self.group_of_row(n);
         let group = &self.groups[index];
         let inks = group.inks();
         let within = (n - group.first) as usize;
@@ -153,12 +169,12 @@ impl RowPlan {
         requires row { n < length (places_in self.now) }
         ensures { result ≡ keeps_in self.now site n }
     {
-        let index = self.group_at(n);
+        let index = self.group_of_row(n);
         self.groups[index].has_site(site)
     }
 
     /// Returns the index of the group of row `n`, found by binary search.
-    fn group_at(&self, n: u64) -> usize
+    fn group_of_row(&self, n: u64) -> usize
         requires { n < length (places_in self.now) }
         ensures { IsGroupAt self.now n result }
     {

@@ -10,7 +10,6 @@ ghost use Rattle.press_job.specs.Rows.{plate_frames};
 use crate::band_rows::BandRows;
 use crate::drawn_rows::DrawnRows;
 use crate::frames::Frames;
-use crate::row_maker::group_at;
 use crate::side::Side;
 use crate::side_rows::SideRows;
 use pr_base::{Ink, NoMemory};
@@ -87,7 +86,7 @@ impl<'j> BandPart<'j> {
         requires { AreRowsFor self.old rows }
         ensures { IsKept self.old self.new }
     {
-        let group = group_at(self.job.rows(), rows.group);
+        let group = self.job.rows().group(rows.group);
         if self.inks.iter().any(|ink| group.has_ink(*ink)) {
             self.rows.draw(group, rows.first, rows.count);
         }

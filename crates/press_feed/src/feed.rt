@@ -217,8 +217,8 @@ fn open_sides<'j>(
 
 /// Whether rows of a job are diffused if only some plates' rows are requested.
 fn diffuses(job: &Job, wanted: Wanted<'_>) -> bool {
-    let groups = job.rows().groups();
-    (0..groups.len()).any(|index| wanted.diffuses(job.plan(), index, &groups[index]))
+    let rows = job.rows();
+    (0..rows.group_count()).any(|index| wanted.diffuses(job.plan(), index, rows.group(index)))
 }
 
 /// The number of frames that one thread makes of a band: a multiple of 20, so that it covers whole rows of

@@ -10,7 +10,7 @@ ghost use Rattle.press_job.specs.Rows.{plate_frames, plate_row};
 use crate::drawn_rows::DrawnRows;
 use crate::frame::{BandFrame, band_frames};
 use crate::plate_row::{join_sides, rows_with};
-use crate::row_maker::{group_at, page_row};
+use crate::row_maker::page_row;
 use crate::side::Side;
 use plan_pages::mark_row;
 use plan_rows::{Group, RowPlace};
@@ -130,7 +130,7 @@ fn pack_frame(
         return;
     }
     let place = job.rows().row_at(n);
-    let group = group_at(job.rows(), place.group);
+    let group = job.rows().group(place.group);
     if join_row(job, group, place, rows, bits) {
         frame.pack(bits);
     }

@@ -47,7 +47,7 @@ fn work_before(job: &Job, wanted: Wanted<'_>, count: usize) -> usize
 pub(crate) fn work_of(job: &Job, wanted: Wanted<'_>, ink: Ink) -> usize
     ensures { result ≤ 4 }
 {
-    if !is_printed(job, ink) || !wanted.has_ink(job.rows().groups().len(), ink) {
+    if !is_printed(job, ink) || !wanted.has_ink(job.rows().group_count(), ink) {
         0
     } else if has_diffused(job.plan(), ink) {
         4

@@ -18,7 +18,7 @@ use crate::screener::has_diffused;
 use crate::wanted::Wanted;
 use plan_json::Plan;
 use plan_pages::{PlateShape, mark_row};
-use plan_rows::{Group, RowPlace, RowPlan};
+use plan_rows::{Group, RowPlace};
 use pr_base::{Deal, Ink, NoMemory, row_bytes};
 use press_job::Job;
 use std::alloc::Global;
@@ -102,7 +102,7 @@ impl<'j> RowMaker<'j> {
     {
         let rows = self.job.rows();
         let place = rows.row_at(n);
-        let group = group_at(rows, place.group);
+        let group = rows.group(place.group);
         draw_row(
             self.job,
             self.wanted,
@@ -114,15 +114,6 @@ impl<'j> RowMaker<'j> {
         );
         frame_row(&self.bits, frame);
     }
-}
-
-/// Lends the group with this index.
-pub(crate) fn group_at(rows: &RowPlan, index: usize) -> &Group
-    requires { index < length rows.now.groups }
-    ensures { slice_get rows.now.groups index ≡ Some result.now }
-{
-    let groups = rows.groups();
-    &groups[index]
 }
 
 /// Draws a row of a plate of a group: the two pages at their positions, the marks, and nothing else.

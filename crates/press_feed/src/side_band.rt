@@ -16,7 +16,7 @@ use crate::band_rows::{BandRows, rows_after, rows_from};
 use crate::drawn_rows::DrawnRows;
 use crate::held_rows::BLOCK;
 use crate::ink_shares::{inks_of_share, work_of};
-use crate::row_maker::{group_at, page_row};
+use crate::row_maker::page_row;
 use crate::side::Side;
 use crate::wanted::Wanted;
 use pr_base::{Ink, NoMemory};
@@ -198,7 +198,7 @@ fn frames_each(job: &Job, rows: BandRows, parts: usize) -> usize
     requires { rows.group < length (groups_of job.now.plan) }
     ensures { (1 ≤ result) × (result ≤ 65536) }
 {
-    let inks = group_at(job.rows(), rows.group).inks();
+    let inks = job.rows().group(rows.group).inks();
     let frames = (rows.count as usize).saturating_mul(inks.len());
     frames.div_ceil(parts.max(1)).clamp(1, MOST_FRAMES)
 }

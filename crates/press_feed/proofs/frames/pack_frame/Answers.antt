@@ -23,8 +23,8 @@ returns-then-join_row-clause-frame c = λ _.
     let job = c.args.job.now in
     let n = c.args.n in
     let place = c.row_at-place.result in
-    let group = c.group_at-group.result.now in
+    let group = c.group-group.result.now in
     let at : slice_get (row_places job.plan) n ≡ Some place = ap {A = RowPlanData} (λ r. slice_get (places_in r) n) (sym c.rows.ensures) ∙ c.row_at-place.ensures.place in
-    let of : slice_get (groups_of job.plan) place.group ≡ Some group = ap {A = RowPlanData} (λ r. slice_get r.groups place.group) (sym c.rows-2.ensures) ∙ c.group_at-group.ensures in
+    let of : slice_get (groups_of job.plan) place.group ≡ Some group = ap {A = RowPlanData} (λ r. slice_get r.groups place.group) (sym c.rows-2.ensures) ∙ c.group-group.ensures in
     let bytes : c.pack.new.self.bytes ≡ frame_of c.join_row.new.bits = ap {A = FrameData} (λ f. f.bytes) c.pack.ensures.frame in
     frame_is job.plan job.files n place group c.join_row.new.bits c.pack.new.self.bytes at of (c.join_row.ensures.row c.if-join_row.true) bytes

@@ -24,17 +24,17 @@ pub draw_row-requires-clause-ink : goal.draw_row-requires-clause-ink
 draw_row-requires-clause-ink c =
     let job = c.self.inside.job.now in
     let place = c.row_at-place.result in
-    place_prints job.plan c.args.n place (ap {A = RowPlanData} (λ r. slice_get (places_in r) c.args.n) (sym c.rows-rows.ensures) ∙ c.row_at-place.ensures.place) c.group_at-group.result.now
-    (ap {A = RowPlanData} (λ r. slice_get r.groups place.group) (sym c.rows-rows.ensures) ∙ c.group_at-group.ensures)
+    place_prints job.plan c.args.n place (ap {A = RowPlanData} (λ r. slice_get (places_in r) c.args.n) (sym c.rows-rows.ensures) ∙ c.row_at-place.ensures.place) c.group-group.result.now
+    (ap {A = RowPlanData} (λ r. slice_get r.groups place.group) (sym c.rows-rows.ensures) ∙ c.group-group.ensures)
 
 pub returns-clause-frame : goal.returns-clause-frame
 returns-clause-frame c =
     let job = c.self.inside.job.now in
     let n = c.args.n in
     let place = c.row_at-place.result in
-    let group = c.group_at-group.result.now in
+    let group = c.group-group.result.now in
     let at : slice_get (row_places job.plan) n ≡ Some place = ap {A = RowPlanData} (λ r. slice_get (places_in r) n) (sym c.rows-rows.ensures) ∙ c.row_at-place.ensures.place in
-    let of : slice_get (groups_of job.plan) place.group ≡ Some group = ap {A = RowPlanData} (λ r. slice_get r.groups place.group) (sym c.rows-rows.ensures) ∙ c.group_at-group.ensures in
+    let of : slice_get (groups_of job.plan) place.group ≡ Some group = ap {A = RowPlanData} (λ r. slice_get r.groups place.group) (sym c.rows-rows.ensures) ∙ c.group-group.ensures in
     let bits_are = c.deref.ensures.value ∙ with_items_is c.self.inside.bits c.draw_row.new.bits (omega arith) in
     subst {A = JobData} (λ j. slice_get (plate_frames j.plan j.files) n ≡ Some c.frame_row.new.into) c.self.view_is
     (frame_is job.plan job.files n place group c.draw_row.new.bits c.frame_row.new.into at of c.draw_row.ensures.row (c.frame_row.ensures ∙ ap frame_of bits_are))

@@ -1,6 +1,6 @@
 use Rattle.std.proofs.Common.{◌≡◌, ◌<◌, ◌≤◌, ◌+◌, ◌-◌, ◌/◌, ℕ, length, sym, subst, arith, rules}
 use Rattle.plan_rows.proofs.RowLemmas.{IsBetween, total_is, first_at, between_all, between_upper, between_lower}
-use Rattle.plan_rows.proofs.row_plan.RowPlan.group_at.Goals as goal
+use Rattle.plan_rows.proofs.row_plan.RowPlan.group_of_row.Goals as goal
 
 pub loop-high-init : goal.loop-high-init
 loop-high-init c =
