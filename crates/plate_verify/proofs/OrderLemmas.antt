@@ -1,10 +1,12 @@
 -- Groups in order: each receives its own rows, and all plates are those of all groups.
-use Rattle.std.proofs.Common.{◌≡◌, ℕ, ◌+◌, ◌*◌, ◌<◌, ◌≤◌, List, [], ◌∷◌, ◌++◌, length, map, take, get_or, Option, Result, refl, sym, ap, ◌∙◌, subst, ⊎_elim, arith}
+use Rattle.std.proofs.Common.{◌≡◌, ℕ, ◌+◌, ◌*◌, ◌<◌, ◌≤◌, List, [], ◌∷◌, ◌++◌, length, map, take, get_or, Option, Some, Result, refl, sym, ap, ◌∙◌, subst, ⊎_elim, arith}
+use Rattle.std.specs.Prelude.{slice_get}
 use Rattle.std.specs.List.{flat_map}
 use Rattle.std.proofs.lemmas.Bool.{cases_lt}
 use Rattle.std.proofs.lemmas.List.{length-append, get_or_append_left}
 use Rattle.std.proofs.lemmas.List.Elements.{All-get_or}
 use Rattle.std.proofs.lemmas.Grind.{flat_map-append}
+use Rattle.std.proofs.lemmas.Option.{get_or_from_slice_get}
 use Rattle.std.proofs.Math.Seq.{get_or-append_seam}
 use Rattle.pr_base.specs.declared.ink.Ink.{Ink}
 use Rattle.plan_json.specs.Data.{PlanData, plate_height}
@@ -13,7 +15,7 @@ use Rattle.plan_rows.specs.declared.group.Group.{Group}
 use Rattle.plan_rows.specs.Groups.{groups_of, row_count}
 use Rattle.plan_rows.specs.Inks.{inks_of, ink_count}
 use Rattle.plan_rows.specs.Plates.{group_plates}
-use Rattle.plan_rows.specs.Rows.{rows_of, row_total, rows_before}
+use Rattle.plan_rows.specs.Rows.{RowPlanData, rows_of, row_total, rows_before}
 use Rattle.plan_rows.proofs.GroupLemmas.{InPlan, groups_in_plan}
 use Rattle.plan_rows.proofs.Places.{plan_is}
 use Rattle.plan_rows.proofs.RowLemmas.{first_is, rows_before-more, rows_before-within}
@@ -112,8 +114,17 @@ sides_more sides plates plate have is = record {
         ap (λ n. f (get_or (plates ++ plate ∷ []) n d)) here ∙ ap f (get_or-append_seam plates plate [] d) ∙ new)
         (cases_lt i (length plates))
 
+-- the number of groups that a row plan has
+pub number_is : (plan : PlanData) (rows : RowPlanData) → rows ≡ rows_of plan → length rows.groups ≡ length (groups_of plan)
+number_is plan rows are = ap {A = RowPlanData} (λ r. length r.groups) are
+
+-- a group of the row plan is that of the plan
+pub group_is : (plan : PlanData) (rows : RowPlanData) (index : ℕ) (group : Group) → rows ≡ rows_of plan → slice_get rows.groups index ≡ Some group → group ≡ get_or (groups_of plan) index group
+group_is plan rows index group are there =
+    sym (get_or_from_slice_get (groups_of plan) index group group (ap {A = RowPlanData} (λ r. slice_get r.groups index) (sym are) ∙ there))
+
 -- each group belongs to a section of the plan
-pub section_at : (plan : PlanData) (groups : List Group) (index : ℕ) (d : Group) → IsPlan plan → groups ≡ groups_of plan → index < length (groups_of plan) → (get_or groups index d).section < length plan.sections
-section_at plan groups index d is are below =
-    (let own : InPlan plan (get_or (groups_of plan) index d) = All-get_or (InPlan plan) (groups_of plan) index d below (groups_in_plan plan is) in
-    subst {A = List Group} (λ l. (get_or l index d).section < length plan.sections) (sym are) own.section)
+pub section_at : (plan : PlanData) (index : ℕ) (group : Group) → IsPlan plan → group ≡ get_or (groups_of plan) index group → index < length (groups_of plan) → group.section < length plan.sections
+section_at plan index group is own below =
+    (let of : InPlan plan (get_or (groups_of plan) index group) = All-get_or (InPlan plan) (groups_of plan) index group below (groups_in_plan plan is) in
+    subst {A = Group} (λ g. g.section < length plan.sections) (sym own) of.section)

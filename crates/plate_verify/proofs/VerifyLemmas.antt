@@ -1,5 +1,5 @@
 -- What one load establishes about a plate, and how checks of plates follow each other.
-use Rattle.std.proofs.Common.{◌≡◌, ℕ, ◌+◌, ◌<◌, ◌≤◌, true, false, List, [], ◌∷◌, ◌++◌, length, take, drop, get_or, Option, Some, None, option_map, Result, Ok, Err, refl, sym, ap, ◌∙◌, subst, inl, inr, append_assoc, arith}
+use Rattle.std.proofs.Common.{◌≡◌, ℕ, ◌+◌, ◌<◌, ◌≤◌, Bool, true, false, if◌then◌else◌, List, [], ◌∷◌, ◌++◌, length, take, drop, get_or, Option, Some, None, option_map, Result, Ok, Err, refl, sym, ap, ◌∙◌, subst, inl, inr, append_assoc, arith}
 use Rattle.std.specs.Prelude.{IfSome, IsSomeAnd, nat_lt, slice_get}
 use Rattle.std.specs.List.{cons_option, filter_map, flat_map}
 use Rattle.std.proofs.lemmas.Bool.{cond-true, cond-false, lt-ltb, le-ltb}
@@ -8,6 +8,7 @@ use Rattle.std.proofs.lemmas.List.{append-nil, take-append-drop, take_more, take
 use Rattle.pr_base.specs.Count.{Rose}
 use Rattle.pr_ports.specs.Shelf.{IsComparedAt, IsLongerAt, held_at, missed_after}
 use Rattle.plan_json.specs.Data.{PlanData}
+use Rattle.plan_rows.specs.Inks.{has_site}
 use Rattle.plan_rows.specs.Plates.{PlateOf, file_of, plate_rows}
 use Rattle.plate_bytes.specs.Made.{PlateState, whole}
 use Rattle.plate_bytes.specs.Places.{row_ends, row_holding}
@@ -18,7 +19,7 @@ use Rattle.plate_verify.specs.declared.checked.VerifyFault.TheVariants.{Shelf, M
 use Rattle.pr_ports.specs.Difference.{difference_of}
 use Rattle.plate_verify.specs.Order.{SitePlate}
 use Rattle.plate_verify.specs.Wrong.{Found, OtherAt, TooMany, wrong_with, wrong_at}
-use Rattle.plate_verify.specs.Verifying.{told, IfLong, UnlessLong, ShelfTold, Stays, IsQuiet, NoneWrong, path_at, AreRight, FindsWrong, FailsAt, Verified, IsMade}
+use Rattle.plate_verify.specs.Verifying.{told, IfLong, UnlessLong, ShelfTold, Stays, IsQuiet, NoneWrong, path_at, AreRight, FindsWrong, FailsAt, Verified, IsMade, plates_at}
 
 -- ---- one load
 
@@ -145,6 +146,12 @@ verified_failed plan rows out at old new path named rose missed stays longs = re
     nothing : (held : Option (List (List ℕ × List ℕ))) → NoneWrong plan rows out held []
     nothing None = tt
     nothing (Some files) = refl
+
+-- a plate at a site that has it
+pub at_its_site : (plan : PlanData) (rows : List (List ℕ)) (out : List ℕ) (plate : PlateOf) (site : ℕ) (old new : ShelfTold) (result : Result (Option Checked) VerifyFault)
+    → has_site plate.0 site ≡ true → Verified plan rows out ((site, plate) ∷ []) old new result → Verified plan rows out (plates_at plate site) old new result
+at_its_site plan rows out plate site old new result is verified =
+    subst (λ (b : Bool). Verified plan rows out (if b then (site, plate) ∷ [] else []) old new result) (sym is) verified
 
 -- ---- one check after another
 

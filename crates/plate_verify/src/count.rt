@@ -6,7 +6,7 @@ ghost use Rattle.plan_rows.specs.Rows.{rows_of};
 ghost use Rattle.plate_verify.specs.Verifying.{group_sites};
 ghost use Rattle.plate_verify.specs.Order.{plates_in_order};
 
-use crate::edition::{group_at, group_count};
+use crate::edition::group_at;
 use crate::inks::ink_number;
 use plan_json::Plan;
 use plan_rows::{Group, RowPlan};
@@ -40,7 +40,7 @@ pub(crate) fn count_plates(plan: &Plan, rows: &RowPlan) -> u32
     ensures { result ≡ length (plates_in_order plan.now) }
 {
     let mut plates = 0;
-    for index in 0..group_count(plan, rows) {
+    for index in 0..rows.group_count() {
         plates += plate_count(plan, group_at(plan, rows, index));
     }
     plates

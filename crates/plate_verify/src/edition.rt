@@ -5,7 +5,7 @@ ghost use Rattle.pr_base.specs.Count.{Rose};
 ghost use Rattle.pr_base.specs.Row.{row_size};
 ghost use Rattle.tif_packbits.specs.Frame.{AreFrames, frame_size, framed_row};
 ghost use Rattle.tif_plate.specs.Plate.{IsDpi, IsSide};
-ghost use Rattle.plan_json.specs.Data.{plate_height, plate_width};
+ghost use Rattle.plan_json.specs.Data.{plate_width};
 ghost use Rattle.plan_json.specs.Plan.{IsPlan};
 ghost use Rattle.plan_rows.specs.Groups.{groups_of};
 ghost use Rattle.plan_rows.specs.Rows.{row_total, rows_of};
@@ -27,6 +27,14 @@ use pr_ports::Shelf;
 use std::alloc::Global;
 use tif_packbits::frame_len;
 use tif_plate::Sides;
+
+/// What is constant during a verification: the plan, and the folder of the plates.
+#[derive(Drop)]
+pub(crate) struct Edition<'e> {
+    pub(crate) alloc: Global,
+    pub(crate) plan: &'e Plan,
+    pub(crate) out: &'e str,
+}
 
 /// Returns plates in memory for a group.
 fn plates_for(alloc: Global, sides: Sides) -> Result<Vec<PlateBytes>, NoMemory>
@@ -52,14 +60,6 @@ fn frame_room(alloc: Global, width: u32) -> Result<Vec<u8>, NoMemory>
     Ok(room)
 }
 
-/// The number of groups of a plan.
-pub(crate) fn group_count(plan: &Plan, rows: &RowPlan) -> usize
-    requires { rows.now ≡ rows_of plan.now }
-    ensures { result ≡ length (groups_of plan.now) }
-{
-    rows.groups().len()
-}
-
 /// Lends the group with this index.
 pub(crate) fn group_at<'a>(plan: &Plan, rows: &'a RowPlan, index: usize) -> &'a Group
     requires rows { rows.now ≡ rows_of plan.now }
@@ -70,32 +70,29 @@ pub(crate) fn group_at<'a>(plan: &Plan, rows: &'a RowPlan, index: usize) -> &'a 
 {
     // Reading the plan makes its invariant available to the proof.
     let _files = plan.files();
-    &rows.groups()[index]
+    rows.group(index)
 }
 
 /// Verifies the plates of each group in order.
 fn verify_groups<F: RowFeed, H: Shelf>(
-    alloc: Global,
-    plan: &Plan,
+    edition: &Edition<'_>,
     rows: &RowPlan,
-    out: &str,
-    height: u32,
     plates: &mut [PlateBytes],
     frame: &mut [u8],
     feed: &mut F,
     shelf: &mut H,
 ) -> Result<Option<Checked>, VerifyFault>
-    requires rows { rows.now ≡ rows_of plan.now }
-    requires height { height ≡ plate_height plan.now }
-    requires fed { CanBeVerified plan.now plates.old (F.left feed.old) (length frame.old) }
-    ensures { (all : List (List ℕ)) → FedFrom plan.now all 0 plates.old (F.left feed.old) (length frame.old) →
+    requires rows { rows.now ≡ rows_of edition.now.plan.now }
+    requires fed { CanBeVerified edition.now.plan.now plates.old (F.left feed.old) (length frame.old) }
+    ensures { (all : List (List ℕ)) →
+        FedFrom edition.now.plan.now all 0 plates.old (F.left feed.old) (length frame.old) →
         length all ≡ row_total rows.now →
-        Verified plan.now all out.now (plates_in_order plan.now)
+        Verified edition.now.plan.now all edition.now.out.now (plates_in_order edition.now.plan.now)
         (shelf_told H.Shelf shelf.old) (shelf_told H.Shelf shelf.new) result }
 {
-    for index in 0..group_count(plan, rows) {
-        let group = group_at(plan, rows, index);
-        match verify_group(alloc, plan, out, group, height, plates, frame, feed, shelf) {
+    for index in 0..rows.group_count() {
+        let group = group_at(edition.plan, rows, index);
+        match verify_group(edition, group, plates, frame, feed, shelf) {
             Ok(None) => {}
             Ok(Some(found)) => return Ok(Some(found)),
             Err(fault) => return Err(fault),
@@ -106,35 +103,23 @@ fn verify_groups<F: RowFeed, H: Shelf>(
 
 /// Verifies all plates.
 fn verify_all<F: RowFeed, H: Shelf>(
-    alloc: Global,
-    plan: &Plan,
+    edition: &Edition<'_>,
     rows: &RowPlan,
     feed: &mut F,
-    out: &str,
     shelf: &mut H,
 ) -> Result<Checked, VerifyFault>
-    requires rows { rows.now ≡ rows_of plan.now }
-    requires frames { AreFrames (row_size (plate_width plan.now)) (map framed_row (F.left feed.old))
-        (F.left feed.old) }
+    requires rows { rows.now ≡ rows_of edition.now.plan.now }
+    requires frames { AreFrames (row_size (plate_width edition.now.plan.now))
+        (map framed_row (F.left feed.old)) (F.left feed.old) }
     requires total { length (F.left feed.old) ≡ row_total rows.now }
-    ensures { AfterAll plan.now (map framed_row (F.left feed.old)) out.now
+    ensures { AfterAll edition.now.plan.now (map framed_row (F.left feed.old)) edition.now.out.now
         (shelf_told H.Shelf shelf.old) (shelf_told H.Shelf shelf.new) result }
 {
-    let sides = plate_sides(plan);
-    let mut plates = plates_for(alloc, sides)?;
-    let mut frame = frame_room(alloc, sides.width)?;
-    let verified = verify_groups(
-        alloc,
-        plan,
-        rows,
-        out,
-        sides.height,
-        &mut plates,
-        &mut frame,
-        feed,
-        shelf,
-    );
-    answer(plan, rows, verified)
+    let sides = plate_sides(edition.plan);
+    let mut plates = plates_for(edition.alloc, sides)?;
+    let mut frame = frame_room(edition.alloc, sides.width)?;
+    let verified = verify_groups(edition, rows, &mut plates, &mut frame, feed, shelf);
+    answer(edition.plan, rows, verified)
 }
 
 /// Returns the result after all plates were verified, or after the first that does not match was found.
@@ -187,5 +172,6 @@ pub fn verify<F: RowFeed, H: Shelf>(
     ensures faults_stay { H.faults shelf.old ≤ H.faults shelf.new }
     ensures longs_stay { H.longs shelf.old ≤ H.longs shelf.new }
 {
-    verify_all(alloc, plan, rows, feed, out, shelf)
+    let edition = Edition { alloc, plan, out };
+    verify_all(&edition, rows, feed, shelf)
 }

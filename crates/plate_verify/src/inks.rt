@@ -1,5 +1,5 @@
 // Compares the held plates of a group with those that were made.
-ghost use Rattle.std.specs.Prelude.{◌≡◌, ◌<◌, ◌≤◌, ◌∷◌, [], ℕ, List, Some, length, option_map, slice_get};
+ghost use Rattle.std.specs.Prelude.{◌≡◌, ◌<◌, ◌≤◌, ℕ, List, Some, length, option_map, slice_get};
 ghost use Rattle.plate_bytes.specs.Places.{row_ends, row_holding};
 ghost use Rattle.pr_ports.specs.Difference.{difference_of};
 ghost use Rattle.plate_verify.specs.Verifying.{AreMade, IsMade, Verified, group_sites, plates_at, shelf_told};
@@ -8,35 +8,36 @@ ghost use Rattle.plan_rows.specs.Inks.{ink_count, inks_of};
 ghost use Rattle.plate_verify.specs.Order.{plate_sites};
 ghost use Rattle.plate_verify.specs.Wrong.{OtherAt};
 
+use crate::edition::Edition;
 use crate::{Checked, VerifyFault};
-use plan_json::Plan;
 use plan_rows::{Group, plate_path};
 use plate_bytes::PlateBytes;
 use pr_base::{Ink, PathText};
 use pr_ports::{LoadFault, Shelf};
-use std::alloc::Global;
 
 /// The largest number of bytes read of a plate. No plate is longer.
 const MOST_BYTES: u64 = 600_000_000;
 
-/// Compares the plate of a site with the one that was made.
-fn verify_plate<H: Shelf>(
-    alloc: Global,
-    plan: &Plan,
-    out: &str,
+/// Compares the plate of a site with the one that was made, if the site has it.
+fn verify_at_site<H: Shelf>(
+    edition: &Edition<'_>,
     group: &Group,
     ink: Ink,
     site: usize,
     made: &PlateBytes,
     shelf: &mut H,
 ) -> Result<Option<Checked>, VerifyFault>
-    requires site { site < length plan.now.sites }
-    requires section { group.now.section < length plan.now.sections }
-    ensures { (rows : List (List ℕ)) → IsMade plan.now rows (group.now, ink) made.now →
-        Verified plan.now rows out.now ((site, (group.now, ink)) ∷ [])
+    requires site { site < length edition.now.plan.now.sites }
+    requires few { site < 16 }
+    requires section { group.now.section < length edition.now.plan.now.sections }
+    ensures { (rows : List (List ℕ)) → IsMade edition.now.plan.now rows (group.now, ink) made.now →
+        Verified edition.now.plan.now rows edition.now.out.now (plates_at (group.now, ink) site)
         (shelf_told H.Shelf shelf.old) (shelf_told H.Shelf shelf.new) result }
 {
-    let path = plate_path(alloc, plan, out, site, group, ink)?;
+    if !group.has_site(site) {
+        return Ok(None);
+    }
+    let path = plate_path(edition.alloc, edition.plan, edition.out, site, group, ink)?;
     match shelf.compare(path.as_str(), MOST_BYTES, made.bytes()) {
         Ok(None) => Ok(None),
         Ok(Some(at)) => Ok(Some(Checked::Differs {
@@ -50,47 +51,22 @@ fn verify_plate<H: Shelf>(
     }
 }
 
-/// Verifies a plate at a site, if the site has it.
-fn verify_at_site<H: Shelf>(
-    alloc: Global,
-    plan: &Plan,
-    out: &str,
-    group: &Group,
-    ink: Ink,
-    site: usize,
-    made: &PlateBytes,
-    shelf: &mut H,
-) -> Result<Option<Checked>, VerifyFault>
-    requires site { site < length plan.now.sites }
-    requires few { site < 16 }
-    requires section { group.now.section < length plan.now.sections }
-    ensures { (rows : List (List ℕ)) → IsMade plan.now rows (group.now, ink) made.now →
-        Verified plan.now rows out.now (plates_at (group.now, ink) site)
-        (shelf_told H.Shelf shelf.old) (shelf_told H.Shelf shelf.new) result }
-{
-    if !group.has_site(site) {
-        return Ok(None);
-    }
-    verify_plate(alloc, plan, out, group, ink, site, made, shelf)
-}
-
 /// Verifies a plate at each site that has it.
 fn verify_at_sites<H: Shelf>(
-    alloc: Global,
-    plan: &Plan,
-    out: &str,
+    edition: &Edition<'_>,
     group: &Group,
     ink: Ink,
     made: &PlateBytes,
     shelf: &mut H,
 ) -> Result<Option<Checked>, VerifyFault>
-    requires { group.now.section < length plan.now.sections }
-    ensures { (rows : List (List ℕ)) → IsMade plan.now rows (group.now, ink) made.now →
-        Verified plan.now rows out.now (plate_sites plan.now (group.now, ink))
+    requires { group.now.section < length edition.now.plan.now.sections }
+    ensures { (rows : List (List ℕ)) → IsMade edition.now.plan.now rows (group.now, ink) made.now →
+        Verified edition.now.plan.now rows edition.now.out.now
+        (plate_sites edition.now.plan.now (group.now, ink))
         (shelf_told H.Shelf shelf.old) (shelf_told H.Shelf shelf.new) result }
 {
-    for site in 0..plan.site_count() {
-        match verify_at_site(alloc, plan, out, group, ink, site, made, shelf) {
+    for site in 0..edition.plan.site_count() {
+        match verify_at_site(edition, group, ink, site, made, shelf) {
             Ok(None) => {}
             Ok(Some(found)) => return Ok(Some(found)),
             Err(fault) => return Err(fault),
@@ -101,22 +77,20 @@ fn verify_at_sites<H: Shelf>(
 
 /// Looks at the plates of a group, ink by ink, each at all its sites before the next.
 pub(crate) fn verify_plates<H: Shelf>(
-    alloc: Global,
-    plan: &Plan,
-    out: &str,
+    edition: &Edition<'_>,
     group: &Group,
     made: &[PlateBytes],
     shelf: &mut H,
 ) -> Result<Option<Checked>, VerifyFault>
-    requires section { group.now.section < length plan.now.sections }
+    requires section { group.now.section < length edition.now.plan.now.sections }
     requires made { ink_count group.now ≤ length made.now }
-    ensures { (rows : List (List ℕ)) → AreMade plan.now rows group.now made.now →
-        Verified plan.now rows out.now (group_sites plan.now group.now)
+    ensures { (rows : List (List ℕ)) → AreMade edition.now.plan.now rows group.now made.now →
+        Verified edition.now.plan.now rows edition.now.out.now (group_sites edition.now.plan.now group.now)
         (shelf_told H.Shelf shelf.old) (shelf_told H.Shelf shelf.new) result }
 {
     for i in 0..ink_number(group) {
         let ink = ink_at(group, i);
-        match verify_at_sites(alloc, plan, out, group, ink, plate_at(made, i), shelf) {
+        match verify_at_sites(edition, group, ink, plate_at(made, i), shelf) {
             Ok(None) => {}
             Ok(Some(found)) => return Ok(Some(found)),
             Err(fault) => return Err(fault),

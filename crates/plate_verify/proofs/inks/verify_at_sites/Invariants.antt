@@ -5,5 +5,5 @@ use Rattle.plate_verify.proofs.inks.verify_at_sites.Given as goal
 
 abbrev pub invariant-loop-site : goal.invariant-loop-site
 invariant-loop-site g l =
-    (rows : List (List ℕ)) → IsMade l.plan rows (l.group, l.ink) l.made
-    → AreRight l.plan rows l.out (flat_map (plates_at (l.group, l.ink)) (take l.site (range_with_len 0 (length l.plan.sites)))) (shelf_told g.H.Shelf l.initial.shelf) (shelf_told g.H.Shelf l.shelf)
+    (rows : List (List ℕ)) → IsMade l.edition.plan.now rows (l.group, l.ink) l.made
+    → AreRight l.edition.plan.now rows l.edition.out.now (flat_map (plates_at (l.group, l.ink)) (take l.site (range_with_len 0 (length l.edition.plan.now.sites)))) (shelf_told g.H.Shelf l.initial.shelf) (shelf_told g.H.Shelf l.shelf)
