@@ -250,7 +250,8 @@ def try_sbom(trial, root, version):
     kit = {element["name"] for element in told["packages"] if element["SPDXID"] in linked}
     used = {word for line in text_of(os.path.join(TOP, "crates.txt")).splitlines() if not line.startswith("#")
             for word in re.split(r"[:\s]+", line) if "=" not in word}
-    tests = {word for word in used if word.endswith("_tests") or word in ("replate_law", "test_room")}
+    tests = {word for word in used
+             if word.endswith("_tests") or word in ("replate_law", "test_room", "worked_files")}
     trial.holds("SPDX: crates", {word for word in used - tests if word} - kit)
 
 

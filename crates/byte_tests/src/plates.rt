@@ -7,26 +7,7 @@ ghost use Rattle.tif_plate.specs.Tail.{IsPlaceable, tail_room};
 use crate::checks::check;
 use std::process::Abort;
 use tif_plate::{Tail, plate_front, plate_tail, rows_per_strip, strips};
-
-// The tail after the packed row 00 90 of a plate of 4 by 1 pixels at 1200 dpi.
-const FOUR_BY_ONE: [u8; 166] = [
-    0x0C, 0, //
-    0x00, 1, 4, 0, 1, 0, 0, 0, 4, 0, 0, 0, //
-    0x01, 1, 4, 0, 1, 0, 0, 0, 1, 0, 0, 0, //
-    0x02, 1, 3, 0, 1, 0, 0, 0, 1, 0, 0, 0, //
-    0x03, 1, 3, 0, 1, 0, 0, 0, 5, 0x80, 0, 0, //
-    0x06, 1, 3, 0, 1, 0, 0, 0, 0, 0, 0, 0, //
-    0x11, 1, 4, 0, 1, 0, 0, 0, 8, 0, 0, 0, //
-    0x15, 1, 3, 0, 1, 0, 0, 0, 1, 0, 0, 0, //
-    0x16, 1, 4, 0, 1, 0, 0, 0, 0, 0x20, 0, 0, //
-    0x17, 1, 4, 0, 1, 0, 0, 0, 2, 0, 0, 0, //
-    0x1A, 1, 5, 0, 1, 0, 0, 0, 0xA0, 0, 0, 0, //
-    0x1B, 1, 5, 0, 1, 0, 0, 0, 0xA8, 0, 0, 0, //
-    0x28, 1, 3, 0, 1, 0, 0, 0, 2, 0, 0, 0, //
-    0, 0, 0, 0, //
-    0xB0, 4, 0, 0, 1, 0, 0, 0, //
-    0xB0, 4, 0, 0, 1, 0, 0, 0, //
-];
+use worked_files::PLATE;
 
 // Asserts the length of the tail of a plate at 1200 dpi and the offset of its directory in the plate, and
 // that nothing is written after it. Returns the buffer, which starts with the tail.
@@ -60,10 +41,11 @@ fn cuts_rows_into_strips(rt: HostRuntime) {
     check(&rt, &cut);
 }
 
+// The tail comes after the front and a packed row of two bytes.
 #[test]
 fn writes_the_tail_of_one_strip(rt: HostRuntime) {
     let tail = tail_of(&rt, 4, 1, &[2], Tail { len: 166, at: 10 });
-    check(&rt, &[tail.starts_with(&FOUR_BY_ONE)]);
+    check(&rt, &[tail.starts_with(&PLATE[10..])]);
 }
 
 #[test]
