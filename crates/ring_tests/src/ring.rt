@@ -1,10 +1,11 @@
 // Rings in one thread: which end waits for which, and that a load returns the number stored last.
-ghost use Rattle.std.specs.Prelude.{◌≡◌, ◌+◌, ◌<◌, OnErr, OnOk};
-ghost use Rattle.ring_tests.specs.Numbered.{IsDrawing, IsFeeding};
+ghost use Rattle.std.specs.Prelude.{◌≡◌, ◌+◌, ◌<◌, ◌≤◌, OnErr, OnOk, length, true};
+ghost use Rattle.ring_rule.specs.Views.{ring_of};
+ghost use Rattle.ring_tests.specs.Numbered.{IsDrawing, IsFeeding, numbered_rows};
 
 use crate::deal::{Numbered, are_all, is_row, row_bytes};
 use pr_base::Deal;
-use ring_lanes::{Ends, Full, NotYet, Reader, Writer, open_ring};
+use ring_lanes::{Ends, Full, NotYet, Reader, Ring, Writer, open_ring};
 use std::process::Abort;
 use std::thread;
 use std::thread::Threads;
@@ -40,16 +41,54 @@ pub fn draw_next(
     Ok(())
 }
 
+/// Opens a ring of the rows of a deal.
+pub fn opened<'d, R: Abort + AllocGlobal>(
+    rt: &R,
+    deal: &'d Numbered,
+    places: u32,
+    readers: u32,
+) -> Ring<'d, Numbered>
+    requires rows { deal.now.total ≤ 2000 }
+    requires places { (1 ≤ places) × (places ≤ 3) }
+    requires readers { (1 ≤ readers) × (readers ≤ 3) }
+    ensures ring { result.ring ≡ ring_of places readers (numbered_rows deal.now.total) 2 }
+    ensures fresh { result.fresh ≡ true }
+{
+    open_ring(rt.alloc(), deal, places, readers).expect(rt, "no ring")
+}
+
+// Returns the writer and both readers of a new ring of three rows.
+fn ends_of<'r, R: Abort + AllocGlobal>(
+    rt: &R,
+    ring: &'r mut Ring<'_, Numbered>,
+) -> (
+    Writer<'r, Numbered>,
+    Reader<'r, Numbered>,
+    Reader<'r, Numbered>,
+)
+    requires fresh { ring.old.fresh ≡ true }
+    requires readers { ring.old.ring.readers ≡ 2 }
+    requires rows { ring.old.ring.rows ≡ numbered_rows 3 }
+    requires total { ring.old.ring.total ≡ length ring.old.ring.rows }
+    ensures writer { IsFeeding 3 0 result.0 }
+    ensures first { IsDrawing 3 0 result.1 }
+    ensures second { IsDrawing 3 0 result.2 }
+    ensures table { result.2.table ≡ result.0.table }
+{
+    let Ends {
+        writer,
+        mut readers,
+    } = ring.ends(rt.alloc()).expect(rt, "no ends");
+    let second = readers.pop().expect(rt, "no reader");
+    let first = readers.pop().expect(rt, "no reader");
+    (writer, first, second)
+}
+
 #[test]
 fn the_writer_waits_for_the_slowest_reader(rt: HostRuntime) {
     let deal = Numbered { total: 3 };
-    let mut ring = open_ring(rt.alloc(), &deal, 2, 2).expect(&rt, "no ring");
-    let Ends {
-        mut writer,
-        mut readers,
-    } = ring.ends(rt.alloc()).expect(&rt, "no ends");
-    let second = readers.pop().expect(&rt, "no reader");
-    let mut first = readers.pop().expect(&rt, "no reader");
+    let mut ring = opened(&rt, &deal, 2, 2);
+    let (mut writer, mut first, second) = ends_of(&rt, &mut ring);
     wait(&rt, &mut writer, &mut first);
     assert!(rt; ends_cross(&rt, writer, second) == (2, 0));
 }
@@ -114,7 +153,7 @@ fn ends_cross<D: Deal + Sync>(
 #[test]
 fn a_row_that_is_held_is_not_overwritten(rt: HostRuntime) {
     let deal = Numbered { total: 3 };
-    let mut ring = open_ring(rt.alloc(), &deal, 2, 1).expect(&rt, "no ring");
+    let mut ring = opened(&rt, &deal, 2, 1);
     let Ends {
         mut writer,
         mut readers,
@@ -171,13 +210,8 @@ fn none_yet(rt: &impl Abort, reader: &mut Reader<'_, Numbered>)
 #[test]
 fn the_writer_passes_over_a_reader_that_left(rt: HostRuntime) {
     let deal = Numbered { total: 3 };
-    let mut ring = open_ring(rt.alloc(), &deal, 1, 2).expect(&rt, "no ring");
-    let Ends {
-        mut writer,
-        mut readers,
-    } = ring.ends(rt.alloc()).expect(&rt, "no ends");
-    let mut second = readers.pop().expect(&rt, "no reader");
-    let mut first = readers.pop().expect(&rt, "no reader");
+    let mut ring = opened(&rt, &deal, 1, 2);
+    let (mut writer, mut first, mut second) = ends_of(&rt, &mut ring);
     leave(&rt, &mut writer, &mut first, &mut second);
 }
 

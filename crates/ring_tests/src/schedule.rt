@@ -4,58 +4,35 @@ ghost use Rattle.ring_core.specs.Sound.{IsSound};
 ghost use Rattle.ring_core.specs.Shown.{schedule_in};
 
 use crate::deal::are_all;
+use ring_core::Event::{Advance, Close, Fill, Leave, Look, Open, Publish, See};
 use ring_core::{Core, Event, Stage};
 use std::process::Abort;
 
-// Two readers and two places: the writer fills both places, then must wait for reader 0 and for reader 1.
-const WAITS: [(Event, bool); 21] = [
-    (Event::Look(0), true),
-    (Event::Look(1), true),
-    (Event::Fill(0), true),
-    (Event::Fill(1), true),
-    (Event::Publish, true),
-    (Event::Look(0), true),
-    (Event::Look(1), true),
-    (Event::Fill(0), true),
-    (Event::Fill(1), true),
-    (Event::Publish, true),
-    (Event::Look(0), true),
-    (Event::Look(1), true),
-    (Event::Fill(0), false),
-    (Event::See(0), true),
-    (Event::Open(0), true),
-    (Event::Close(0), true),
-    (Event::Advance(0), true),
-    (Event::Look(0), true),
-    (Event::Fill(0), true),
-    (Event::Fill(1), false),
-    (Event::Publish, false),
-];
-
-const OTHERS: [(Event, bool); 7] = [
-    (Event::Look(2), false),
-    (Event::Fill(2), false),
-    (Event::See(2), false),
-    (Event::Open(2), false),
-    (Event::Close(2), false),
-    (Event::Advance(2), false),
-    (Event::Leave(2), false),
-];
+// The writer looks at both readers, fills their lanes and publishes.
+const ROUND: [Event; 5] = [Look(0), Look(1), Fill(0), Fill(1), Publish];
 
 // Applies these events, and compares whether each was possible.
-fn follow(rt: &impl Abort, core: &mut Core, turns: &[(Event, bool)])
+fn apply(rt: &impl Abort, core: &mut Core, events: &[Event], possible: bool)
     requires { IsSound (schedule_in core.old) }
+    ensures { IsSound (schedule_in core.new) }
 {
-    for (event, possible) in turns {
+    for event in events {
         let done = core.step(*event).expect(rt, "memory");
-        assert!(rt; done == *possible, "{event:?}");
+        assert!(rt; done == possible, "{event:?}");
     }
 }
 
+// Two readers and two places: the writer fills both places, then must wait for reader 0 and for reader 1.
 #[test]
 fn waits_for_the_slowest(rt: HostRuntime) {
     let mut core = Core::new(rt.alloc(), 2, 2, 3).expect(&rt, "memory");
-    follow(&rt, &mut core, &WAITS);
+    apply(&rt, &mut core, &ROUND, true);
+    apply(&rt, &mut core, &ROUND, true);
+    apply(&rt, &mut core, &[Look(0), Look(1)], true);
+    apply(&rt, &mut core, &[Fill(0)], false);
+    let served = [See(0), Open(0), Close(0), Advance(0), Look(0), Fill(0)];
+    apply(&rt, &mut core, &served, true);
+    apply(&rt, &mut core, &[Fill(1), Publish], false);
     assert!(rt; has_readers(&core, &[Some(1), Some(0)]), "readers");
     assert!(rt; has_lanes(&core), "lanes");
 }
@@ -79,7 +56,9 @@ fn has_lanes(core: &Core) -> bool {
 #[test]
 fn knows_no_other_reader(rt: HostRuntime) {
     let mut core = Core::new(rt.alloc(), 1, 2, 1).expect(&rt, "memory");
-    follow(&rt, &mut core, &OTHERS);
+    apply(&rt, &mut core, &[Look(2), Fill(2)], false);
+    let events = [See(2), Open(2), Close(2), Advance(2), Leave(2)];
+    apply(&rt, &mut core, &events, false);
     assert!(rt; has_readers(&core, &[Some(0), Some(0)]), "readers");
 }
 
@@ -137,13 +116,13 @@ fn next_event(seed: &mut u64, readers: u32) -> Event
         .wrapping_add(1442695040888963407);
     let reader = ((*seed >> 40) % (u64::from(readers) + 1)) as u32;
     match (*seed >> 33) % 29 {
-        0..=3 => Event::Look(reader),
-        4..=7 => Event::Fill(reader),
-        8..=11 => Event::Publish,
-        12..=15 => Event::See(reader),
-        16..=19 => Event::Open(reader),
-        20..=23 => Event::Close(reader),
-        24..=27 => Event::Advance(reader),
-        _ => Event::Leave(reader),
+        0..=3 => Look(reader),
+        4..=7 => Fill(reader),
+        8..=11 => Publish,
+        12..=15 => See(reader),
+        16..=19 => Open(reader),
+        20..=23 => Close(reader),
+        24..=27 => Advance(reader),
+        _ => Leave(reader),
     }
 }

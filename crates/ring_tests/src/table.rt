@@ -80,52 +80,53 @@ fn rows_pass_twice_round_and_a_reader_leaves(rt: HostRuntime) {
     let deal = Numbered { total: 5 };
     let mut table = RingTable::new(rt.alloc(), &deal, 2, 2).expect(&rt, "no table");
     let Seats {
-        mut writer,
+        writer,
         mut readers,
     } = table.seats(rt.alloc()).expect(&rt, "no seats");
-    let mut second = readers.pop().expect(&rt, "no reader");
-    let mut first = readers.pop().expect(&rt, "no reader");
-    pass(&rt, &mut writer, &mut first, &mut second);
+    let mut seats = Three {
+        writer,
+        second: readers.pop().expect(&rt, "no reader"),
+        first: readers.pop().expect(&rt, "no reader"),
+    };
+    pass(&rt, &mut seats);
+}
+
+// The seats of the writer and of both readers.
+#[derive(Drop)]
+struct Three<'t> {
+    writer: WriterSeat<'t, Numbered>,
+    first: ReaderSeat<'t, Numbered>,
+    second: ReaderSeat<'t, Numbered>,
 }
 
 // The writer waits for the slower of two readers, and skips one that left.
-fn pass(
-    rt: &impl Abort,
-    writer: &mut WriterSeat<'_, Numbered>,
-    first: &mut ReaderSeat<'_, Numbered>,
-    second: &mut ReaderSeat<'_, Numbered>,
-)
-    requires writer { IsIdleWriter 2 2 5 0 writer.old.view }
-    requires first { IsIdleReader 5 0 first.old.view }
-    requires second { IsIdleReader 5 0 second.old.view }
+fn pass(rt: &impl Abort, seats: &mut Three<'_>)
+    requires writer { IsIdleWriter 2 2 5 0 seats.old.writer.view }
+    requires first { IsIdleReader 5 0 seats.old.first.view }
+    requires second { IsIdleReader 5 0 seats.old.second.view }
 {
-    publish(rt, writer, 0);
-    assert!(rt; second.see() == 1);
-    publish(rt, writer, 1);
-    assert!(rt; second.see() == 2);
-    assert!(rt; writer.look(1) == 0);
-    wait(rt, writer, first, second);
+    publish(rt, &mut seats.writer, 0);
+    assert!(rt; seats.second.see() == 1);
+    publish(rt, &mut seats.writer, 1);
+    assert!(rt; seats.second.see() == 2);
+    assert!(rt; seats.writer.look(1) == 0);
+    wait(rt, seats);
 }
 
 // Both places are full.
-fn wait(
-    rt: &impl Abort,
-    writer: &mut WriterSeat<'_, Numbered>,
-    first: &mut ReaderSeat<'_, Numbered>,
-    second: &mut ReaderSeat<'_, Numbered>,
-)
-    requires writer { IsIdleWriter 2 2 5 2 writer.old.view }
-    requires first { IsIdleReader 5 0 first.old.view }
-    requires second { IsIdleReader 5 0 second.old.view }
+fn wait(rt: &impl Abort, seats: &mut Three<'_>)
+    requires writer { IsIdleWriter 2 2 5 2 seats.old.writer.view }
+    requires first { IsIdleReader 5 0 seats.old.first.view }
+    requires second { IsIdleReader 5 0 seats.old.second.view }
 {
-    is_full(rt, writer, 2);
-    read(rt, first, 0);
-    is_full(rt, writer, 2);
-    read(rt, second, 0);
-    assert!(rt; writer.look(1) == 1);
-    publish(rt, writer, 2);
-    second.store_left();
-    finish(rt, writer, first);
+    is_full(rt, &mut seats.writer, 2);
+    read(rt, &mut seats.first, 0);
+    is_full(rt, &mut seats.writer, 2);
+    read(rt, &mut seats.second, 0);
+    assert!(rt; seats.writer.look(1) == 1);
+    publish(rt, &mut seats.writer, 2);
+    seats.second.store_left();
+    finish(rt, &mut seats.writer, &mut seats.first);
 }
 
 // The second reader took one row and left.

@@ -3,8 +3,8 @@ ghost use Rattle.std.specs.Prelude.{◌+◌, ◌<◌, ◌≤◌};
 ghost use Rattle.ring_tests.specs.Numbered.{IsDrawing, IsFeeding};
 
 use crate::deal::Numbered;
-use crate::ring::{draw_next, publish_next};
-use ring_lanes::{Ends, Reader, Writer, open_ring};
+use crate::ring::{draw_next, opened, publish_next};
+use ring_lanes::{Ends, Reader, Writer};
 use std::process::Abort;
 use std::thread;
 use std::thread::Threads;
@@ -128,7 +128,7 @@ fn draw_both<R: Threads + Abort + Sync>(
 #[test]
 fn rows_pass_to_readers_at_their_own_pace(rt: HostRuntime) {
     let deal = Numbered { total: 2000 };
-    let mut ring = open_ring(rt.alloc(), &deal, 3, 3).expect(&rt, "no ring");
+    let mut ring = opened(&rt, &deal, 3, 3);
     let Ends {
         writer,
         mut readers,

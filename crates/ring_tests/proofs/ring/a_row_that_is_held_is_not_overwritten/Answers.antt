@@ -1,6 +1,0 @@
-use Rattle.std.proofs.Common.{arith}
-use Rattle.ring_tests.proofs.Rows.{rows_count}
-use Rattle.ring_tests.proofs.ring.a_row_that_is_held_is_not_overwritten.Goals as goal
-
-pub open_ring-requires-clause-total : goal.open_ring-requires-clause-total
-open_ring-requires-clause-total g c = omega (arith, rows_count 3)
