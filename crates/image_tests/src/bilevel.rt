@@ -3,7 +3,6 @@
 ghost use Rattle.std.specs.Prelude.{◌≡◌};
 ghost use Rattle.tif_strips.specs.Strips.{row_length};
 
-use crate::files::{LINE, changed};
 use crate::strips::{BITS, has_rows};
 use pr_base::{FaultKind, TagFault};
 use std::alloc::Global;
@@ -11,6 +10,7 @@ use std::process::Abort;
 use std::thread::Threads;
 use tif_image::{Bilevel, BilevelUse, Usage, test_image};
 use tif_strips::Shape;
+use worked_files::{LINE, changed};
 
 // Returns the shape or the fault that the tests of a file give.
 fn answer(bytes: &[u8], usage: BilevelUse) -> Result<Shape, TagFault> {

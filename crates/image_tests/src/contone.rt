@@ -1,6 +1,6 @@
 // A contone image of 4 by 1 pixels, the results of its tests after a byte is changed, and the same image
 // written in other ways.
-use crate::files::{LEAST_FIRST, MOST_FIRST, PLANES, changed};
+use crate::strips;
 use crate::strips::has_rows;
 use pr_base::{FaultKind, TagFault};
 use std::alloc::Global;
@@ -8,6 +8,7 @@ use std::process::Abort;
 use std::thread::Threads;
 use tif_image::{Contone, Usage, test_image};
 use tif_strips::Shape;
+use worked_files::{LEAST_FIRST, MOST_FIRST, PLANES, SAMPLES, changed};
 
 // Packed samples: 16 header bytes that expand to nothing.
 const NOTHING: [(usize, u8); 18] = [
@@ -60,18 +61,13 @@ fn shows(image: &Contone<'_>, rows: &[[u8; 16]]) -> bool {
 #[test]
 fn takes_both_orders(rt: HostRuntime) {
     let shape = Shape {
-        width: 4,
         length: 1,
-        samples: 4,
-        bits: 8,
         planar: 1,
-        packed: false,
-        rows_per_strip: 1,
+        ..strips::PLANES
     };
-    let row = [0, 0, 0, 1, 0, 0, 0, 127, 0, 0, 0, 31, 0, 0, 0, 255];
     for bytes in [LEAST_FIRST, MOST_FIRST] {
         assert!(rt; answer(&bytes) == Ok(shape));
-        assert_image(&rt, rt.alloc(), &bytes, &[row]);
+        assert_image(&rt, rt.alloc(), &bytes, &[SAMPLES]);
     }
 }
 

@@ -2,10 +2,10 @@
 ghost use Rattle.std.specs.Prelude.{◌<◌, IsTrue};
 ghost use Rattle.tif_dir.specs.Table.{is_listed};
 
-use crate::files::{LEAST_FIRST, MOST_FIRST, changed};
 use pr_base::{FaultKind, TagFault};
 use std::process::Abort;
 use tif_dir::{least_count, read_dir};
+use worked_files::{LEAST_FIRST, MOST_FIRST, changed};
 
 fn fault(tag: u16, kind: FaultKind) -> TagFault {
     TagFault { tag, kind }

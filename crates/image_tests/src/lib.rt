@@ -9,8 +9,6 @@ mod contone;
 #[cfg(test)]
 mod directory;
 #[cfg(test)]
-mod files;
-#[cfg(test)]
 mod parts;
 #[cfg(test)]
 mod strips;

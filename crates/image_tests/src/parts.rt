@@ -2,11 +2,13 @@
 ghost use Rattle.std.specs.Prelude.{◌≡◌, ◌+◌, ◌<◌, ◌≤◌};
 ghost use Rattle.tif_strips.specs.Strips.{IsStriped, planes};
 
-use crate::files::changed;
-use crate::strips::{EIGHT_STRIPS, FIVE_ROWS, LONGER, PLANE_ROWS, PLANES, THREE_STRIPS};
+use crate::strips::{
+    EIGHT_STRIPS, FIVE_ROWS, LONGER, PLANE_ROWS, PLANES, SIDE_BY_SIDE, THREE_STRIPS,
+};
 use std::process::Abort;
 use tif_dir::read_dir;
 use tif_strips::{RowCursor, Shape, Strips};
+use worked_files::changed;
 
 // Sixteen samples in one packed strip: six literal bytes, 7 four times, and six literal bytes.
 const PACKED: [u8; 50] = [
@@ -41,9 +43,9 @@ fn has_parts_from<const N: usize>(
     requires within { (first < shape.width) × (shape.width ≤ 65535) }
 {
     for count in 1..shape.width - first + 1 {
-        let place = place_of(shape, first, count);
+        let columns = columns_of(shape, first, count);
         for above in 0..rows.len() {
-            if !has_part_behind(strips.rows(), above, first, count, place, &rows[above..]) {
+            if !has_part_behind(strips.rows(), above, columns, &rows[above..]) {
                 return false;
             }
         }
@@ -51,15 +53,31 @@ fn has_parts_from<const N: usize>(
     true
 }
 
-// Returns the offsets in a row of the first byte of these columns and of the end of the last.
-fn place_of(shape: Shape, first: u32, count: u32) -> (usize, usize)
+// Columns of a row, and where their bytes begin and end in it.
+#[derive(Clone, Copy)]
+struct Columns {
+    first: u32,
+    count: u32,
+    from: usize,
+    to: usize,
+}
+
+fn columns_of(shape: Shape, first: u32, count: u32) -> Columns
     requires within { (1 ≤ count) × (first + count ≤ 65535) }
+    ensures first { result.first ≡ first }
+    ensures count { result.count ≡ count }
 {
-    let (first, last) = (first as usize, (first + count - 1) as usize);
-    if shape.samples == 4 {
-        (4 * first, 4 * last + 4)
+    let (left, right) = (first as usize, (first + count - 1) as usize);
+    let (from, to) = if shape.samples == 4 {
+        (4 * left, 4 * right + 4)
     } else {
-        (first / 8, last / 8 + 1)
+        (left / 8, right / 8 + 1)
+    };
+    Columns {
+        first,
+        count,
+        from,
+        to,
     }
 }
 
@@ -68,12 +86,10 @@ fn place_of(shape: Shape, first: u32, count: u32) -> (usize, usize)
 fn has_part_behind<const N: usize>(
     mut cursor: RowCursor<'_>,
     above: usize,
-    first: u32,
-    count: u32,
-    place: (usize, usize),
+    columns: Columns,
     rows: &[[u8; N]],
 ) -> bool
-    requires { first + count ≤ cursor.shape.width }
+    requires { columns.first + columns.count ≤ cursor.shape.width }
 {
     if above > cursor.left() as usize {
         return false;
@@ -81,29 +97,21 @@ fn has_part_behind<const N: usize>(
     let half = above as u32 / 2;
     cursor.skip_rows(half);
     cursor.skip_rows(above as u32 - half);
-    has_part(cursor, first, count, place, rows)
+    has_part(cursor, columns, rows)
 }
 
-// Returns whether these rows are left and no others, and these columns of each are its bytes at `place`, from
-// an offset to an end.
-fn has_part<const N: usize>(
-    mut cursor: RowCursor<'_>,
-    first: u32,
-    count: u32,
-    place: (usize, usize),
-    rows: &[[u8; N]],
-) -> bool
-    requires { first + count ≤ cursor.shape.width }
+// Returns whether these rows are left and no others, and these columns of each have its bytes.
+fn has_part<const N: usize>(mut cursor: RowCursor<'_>, columns: Columns, rows: &[[u8; N]]) -> bool
+    requires { columns.first + columns.count ≤ cursor.shape.width }
 {
-    let (from, to) = place;
     for row in rows {
-        let len = cursor.part_len(first, count);
+        let len = cursor.part_len(columns.first, columns.count);
         if cursor.left() == 0 || len > N {
             return false;
         }
         let mut into = [0xee; N];
-        cursor.next_part(first, count, &mut into[..len]);
-        if row.get(from..to) != Some(&into[..len]) {
+        cursor.next_part(columns.first, columns.count, &mut into[..len]);
+        if row.get(columns.from..columns.to) != Some(&into[..len]) {
             return false;
         }
     }
@@ -159,26 +167,17 @@ fn columns_of_each_plane(rt: HostRuntime) {
 #[test]
 fn parts_of_one_plane(rt: HostRuntime) {
     assert_parts(&rt, &EIGHT_STRIPS, THREE_STRIPS, &FIVE_ROWS);
-    // Two pixels of four samples, interleaved.
-    let inks = Shape {
-        width: 2,
-        length: 1,
-        planar: 1,
-        ..PLANES
-    };
     let bytes = changed(EIGHT_STRIPS, &LONGER);
-    assert_parts(&rt, &bytes, inks, &[[1, 2, 3, 4, 5, 6, 7, 8]]);
+    assert_parts(&rt, &bytes, SIDE_BY_SIDE, &[[1, 2, 3, 4, 5, 6, 7, 8]]);
 }
 
 #[test]
 fn parts_of_packed_rows(rt: HostRuntime) {
     let rows = [[1, 2, 3, 4, 5, 6, 7, 7], [7, 7, 11, 12, 13, 14, 15, 16]];
     let inks = Shape {
-        width: 2,
-        planar: 1,
+        length: 2,
         packed: true,
-        rows_per_strip: 2,
-        ..PLANES
+        ..SIDE_BY_SIDE
     };
     assert_parts(&rt, &PACKED, inks, &rows);
     let bits = Shape {

@@ -2,13 +2,13 @@
 ghost use Rattle.std.specs.Prelude.{◌≡◌};
 ghost use Rattle.tif_strips.specs.Strips.{IsStriped, row_length};
 
-use crate::files::changed;
 use pr_base::{FaultKind, TagFault};
 use std::alloc::Global;
 use std::process::Abort;
 use std::thread::Threads;
 use tif_dir::read_dir;
 use tif_strips::{RowCursor, Shape, Strips};
+use worked_files::changed;
 
 /// Eight pixels a row of one bit each; two rows in one packed strip, in `PACKET` a packet at byte 34.
 pub const BITS: Shape = Shape {
@@ -44,6 +44,15 @@ pub const PLANE_ROWS: [[u8; 16]; 2] = [
     [1, 11, 21, 31, 2, 12, 22, 32, 3, 13, 23, 33, 4, 14, 24, 34],
     [5, 15, 25, 35, 6, 16, 26, 36, 7, 17, 27, 37, 8, 18, 28, 38],
 ];
+
+/// Two pixels whose samples are side by side, in one strip of more rows than the image has.
+pub const SIDE_BY_SIDE: Shape = Shape {
+    width: 2,
+    length: 1,
+    planar: 1,
+    rows_per_strip: 4_294_967_295,
+    ..PLANES
+};
 
 /// Five rows of bits in three strips: the last strip has one.
 pub const THREE_STRIPS: Shape = Shape {
@@ -128,15 +137,13 @@ fn packets_cross_rows(rt: HostRuntime) {
 #[test]
 fn planes_are_joined_pixel_by_pixel(rt: HostRuntime) {
     assert_image(&rt, &EIGHT_STRIPS, PLANES, &PLANE_ROWS);
-    // One plane with all samples, in one strip of more rows than the image has.
-    let shape = Shape {
+    let narrow = Shape {
         width: 1,
-        planar: 1,
-        rows_per_strip: 4_294_967_295,
-        ..PLANES
+        length: 2,
+        ..SIDE_BY_SIDE
     };
     let bytes = changed(EIGHT_STRIPS, &LONGER);
-    assert_image(&rt, &bytes, shape, &[[1, 2, 3, 4], [5, 6, 7, 8]]);
+    assert_image(&rt, &bytes, narrow, &[[1, 2, 3, 4], [5, 6, 7, 8]]);
     assert_image(&rt, &EIGHT_STRIPS, THREE_STRIPS, &FIVE_ROWS);
 }
 
