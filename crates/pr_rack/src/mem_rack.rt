@@ -157,6 +157,7 @@ impl Rack for MemRack {
         Ok(())
     }
 
+    #[tactic(auto, using(crate::proofs::OneSlot::others_begun, crate::proofs::OneSlot::others_stand))]
     fn row(&mut self, slot: usize, held: &Held) -> Result<(), RackFault>
         requires begun { slice_get (map is_some self.old.slots) slot ≡ Some true }
         requires frame { IsFrame held.now.bytes }
@@ -198,6 +199,7 @@ impl Rack for MemRack {
         Ok(())
     }
 
+    #[tactic(auto, using(crate::proofs::OneSlot::others_begun, crate::proofs::OneSlot::others_stand))]
     fn finish(&mut self, slot: usize, tail: &[u8], at: u32) -> Result<(), RackFault>
         requires begun { slice_get (map is_some self.old.slots) slot ≡ Some true }
         requires place { IfSome (plate_in (Some self.old.slots) slot)

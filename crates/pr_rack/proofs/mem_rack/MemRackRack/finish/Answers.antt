@@ -1,7 +1,7 @@
 use Rattle.std.proofs.Common.{◌≡◌, ◌∙◌, None, ap, slice_set}
 use Rattle.pr_rack.specs.Mem.{MemState}
 use Rattle.pr_rack.specs.Rack.{Slots}
-use Rattle.pr_rack.proofs.OneSlot.{begun_set, others_begun, others_stand}
+use Rattle.pr_rack.proofs.OneSlot.{begun_set}
 use Rattle.pr_rack.proofs.mem_rack.MemRackRack.finish.Goals as goal
 use Rattle.pr_rack.proofs.mem_rack.MemRackRack.finish.Goals.{After-take-path}
 
@@ -11,18 +11,6 @@ emptied c =
     let same : ◌≡◌ {A = Slots} c.self.inside.slots c.args.self.now.slots =
     ap {A = MemState} {B = Slots} (λ r. r.slots) (c.self.view_is ∙ c.fails.ensures.counted) in
     c.take-path.ensures.after ∙ ap {A = Slots} {B = Slots} (λ slots. slice_set slots c.args.slot None) same
-
-pub returns-then-is_err-clause-others_begun : goal.returns-then-is_err-clause-others_begun
-returns-then-is_err-clause-others_begun c = others_begun _ _ c.args.slot None (emptied (goal.at.returns-then-is_err-clause-others_begun c).After-take-path)
-
-pub returns-then-is_err-clause-others_stand : goal.returns-then-is_err-clause-others_stand
-returns-then-is_err-clause-others_stand c = others_stand _ _ c.args.slot None (emptied (goal.at.returns-then-is_err-clause-others_stand c).After-take-path)
-
-pub returns-then-is_err-2-clause-others_begun : goal.returns-then-is_err-2-clause-others_begun
-returns-then-is_err-2-clause-others_begun c = others_begun _ _ c.args.slot None (emptied (goal.at.returns-then-is_err-2-clause-others_begun c).After-take-path)
-
-pub returns-then-is_err-2-clause-others_stand : goal.returns-then-is_err-2-clause-others_stand
-returns-then-is_err-2-clause-others_stand c = others_stand _ _ c.args.slot None (emptied (goal.at.returns-then-is_err-2-clause-others_stand c).After-take-path)
 
 pub returns-clause-begun : goal.returns-clause-begun
 returns-clause-begun c = begun_set _ _ c.args.slot None (emptied (goal.at.returns-clause-begun c).After-take-path)

@@ -4,7 +4,7 @@ use Rattle.std.proofs.lemmas.Grind.{common_steps}
 use Rattle.tif_packbits.specs.Frame.{packed_in}
 use Rattle.pr_rack.specs.Mem.{MemState, plate_of}
 use Rattle.pr_rack.specs.Rack.{Plate, Slots, with_bytes}
-use Rattle.pr_rack.proofs.OneSlot.{others_begun, others_stand, put_back, still_begun}
+use Rattle.pr_rack.proofs.OneSlot.{put_back, still_begun}
 use Rattle.pr_rack.proofs.mem_rack.MemRackRack.row.Goals as goal
 use Rattle.pr_rack.proofs.mem_rack.MemRackRack.row.Goals.{After-take-path, After-put}
 
@@ -15,18 +15,6 @@ same_slots c = ap {A = MemState} {B = Slots} (λ r. r.slots) (c.self.view_is ∙
 -- the slot is empty after its plate was taken out
 emptied : (c : After-take-path) → ◌≡◌ {A = Slots} c.take-path.new.self (slice_set c.args.self.now.slots c.args.slot None)
 emptied c = c.take-path.ensures.after ∙ ap {A = Slots} {B = Slots} (λ slots. slice_set slots c.args.slot None) (same_slots c)
-
-pub returns-then-is_err-clause-others_begun : goal.returns-then-is_err-clause-others_begun
-returns-then-is_err-clause-others_begun c = others_begun _ _ c.args.slot None (emptied (goal.at.returns-then-is_err-clause-others_begun c).After-take-path)
-
-pub returns-then-is_err-clause-others_stand : goal.returns-then-is_err-clause-others_stand
-returns-then-is_err-clause-others_stand c = others_stand _ _ c.args.slot None (emptied (goal.at.returns-then-is_err-clause-others_stand c).After-take-path)
-
-pub returns-then-is_err-2-clause-others_begun : goal.returns-then-is_err-2-clause-others_begun
-returns-then-is_err-2-clause-others_begun c = others_begun _ _ c.args.slot None (emptied (goal.at.returns-then-is_err-2-clause-others_begun c).After-take-path)
-
-pub returns-then-is_err-2-clause-others_stand : goal.returns-then-is_err-2-clause-others_stand
-returns-then-is_err-2-clause-others_stand c = others_stand _ _ c.args.slot None (emptied (goal.at.returns-then-is_err-2-clause-others_stand c).After-take-path)
 
 -- the row's packed bytes follow those of the plate
 more_bytes : (c : After-put) → c.extend_from_slice.new.self.items ≡ c.take-path.result.1.items ++ packed_in c.args.held.now.bytes
