@@ -1,15 +1,14 @@
 -- What the tests of files find, from one use of a file to the layers of a plan.
-use Rattle.std.proofs.Common.{inl, inr, ◌≡◌, ◌≢◌, ℕ, ◌+◌, ◌<◌, Bool, true, false, cond, List, [], ◌∷◌, ◌++◌, length, get_or, drop, refl, ap, sym, ◌∙◌, subst, arith}
-use Rattle.std.specs.Prelude.{All, IfSome, Option, Some, None, Err, nat_eq, option_map, option_to_list, slice_get, slice_index_or}
+use Rattle.std.proofs.Common.{inl, inr, ◌≡◌, ℕ, ◌+◌, ◌<◌, ◌≤◌, true, false, List, [], ◌∷◌, ◌++◌, length, get_or, take, drop, refl, ap, sym, ◌∙◌, subst, arith}
+use Rattle.std.specs.Prelude.{All, IfSome, Option, Some, None, Err, option_map, option_to_list, slice_get, slice_index_or}
 use Rattle.std.specs.Option.{option_map_or, option_or}
 use Rattle.std.proofs.lemmas.Bool.{cases_lt}
-use Rattle.std.proofs.lemmas.Bool.Decides.{nat_tests}
-use Rattle.std.proofs.lemmas.List.{get_or_append_left, get_or_push, length_push}
-use Rattle.std.proofs.lemmas.List.Elements.{All-weaker}
+use Rattle.std.proofs.lemmas.List.{get_or_append_left, get_or_push, length_push, take_all}
+use Rattle.std.proofs.lemmas.List.Elements.{All-more, All-same, All-weaker}
 use Rattle.std.proofs.lemmas.Option.{get_or_from_slice_get, slice_get_within}
 use Rattle.pr_base.specs.declared.fault.TagFault.{TagFault}
 use Rattle.pr_base.specs.First.{first_some}
-use Rattle.pr_base.proofs.Firsts.{first_some-found}
+use Rattle.pr_base.proofs.Firsts.{first_some-end, first_some-found, first_some-on}
 use Rattle.tif_image.specs.Found.{FoundData, IsFound}
 use Rattle.tif_image.specs.Tested.{Tells}
 use Rattle.tif_image.specs.declared.test_fault.TestFault.{TestFault}
@@ -26,7 +25,7 @@ use Rattle.press_job.specs.declared.findings.Findings.{Findings}
 use Rattle.press_job.specs.Findings.{AreRecorded, FilesData, HasLayer, HasRecords, HaveLayers, IsRecorded, found_of, with_found}
 use Rattle.press_job.specs.Layers.{planned_layers}
 use Rattle.press_job.specs.Tested.{GoesOn, IsTested, PassesIn, fault_at_mention, has_passed, with_use}
-use Rattle.press_job.specs.Tests.{fault_for, layer_fault, mention_fault, page_fault, use_of}
+use Rattle.press_job.specs.Tests.{layer_fault, mention_fault, use_of}
 
 -- ---- one use
 
@@ -90,25 +89,6 @@ goes_on_then first mid last one other = record {
 
 -- ---- one mention
 
-itself : (n : ℕ) → nat_eq n n ≡ true
-itself n = grind (arith, nat_tests)
-
-apart : (m n : ℕ) → m ≢ n → nat_eq m n ≡ false
-apart m n other = grind (arith, nat_tests)
-
-pub fault_of_other : (test : FileTest) (mention : Option ℕ) (usage : Usage) → (mention ≡ Some test.file → ⊥)
-    → fault_at_mention test mention usage ≡ None
-fault_of_other test None usage other = refl
-fault_of_other test (Some file) usage other =
-    let ne : file ≢ test.file = λ same. other (ap {A = ℕ} Some same) in
-    ap {A = Bool} (λ b. cond {A = Option TagFault} b (fault_for usage test.bytes.now) None) (apart file test.file ne)
-
-pub fault_of_this : (test : FileTest) (mention : Option ℕ) (usage : Usage) → mention ≡ Some test.file
-    → fault_at_mention test mention usage ≡ fault_for usage test.bytes.now
-fault_of_this test mention usage this =
-    ap {A = Option ℕ} (λ m. fault_at_mention test m usage) this
-    ∙ ap {A = Bool} (λ b. cond {A = Option TagFault} b (fault_for usage test.bytes.now) None) (itself test.file)
-
 pub fault_of_same : (old new : FileTest) (mention : Option ℕ) (usage : Usage) → GoesOn old new
     → fault_at_mention new mention usage ≡ fault_at_mention old mention usage
 fault_of_same old new None usage on = refl
@@ -168,25 +148,46 @@ passes_still old new layer on passes = record {
   mask = λ same. on.kept (Bilevel Mask) (passes.mask (same ∙ ap {A = ℕ} Some on.file));
 }
 
-pub layers_still : (old new : FileTest) (layers : List LayerData) → GoesOn old new → All (PassesIn old) layers
-    → All (PassesIn new) layers
-layers_still old new layers on all = All-weaker (PassesIn old) (PassesIn new) (λ layer. passes_still old new layer on) layers all
+-- the fault for an element at a later state of the test
+fault_same : {X : Type 0} (fault : ℕ → List ℕ → X → Option TagFault) (old new : FileTest) (x : X) → GoesOn old new
+    → fault old.file old.bytes.now x ≡ fault new.file new.bytes.now x
+fault_same fault old new x on =
+    ap {A = ℕ} (λ n. fault n old.bytes.now x) (sym on.file) ∙ ap {A = List ℕ} (λ bytes. fault new.file bytes x) (sym on.bytes)
 
-pub pages_still : (old new : FileTest) (pages : List PageData) → GoesOn old new
-    → All (λ page. All (PassesIn old) page.layers) pages → All (λ page. All (PassesIn new) page.layers) pages
-pages_still old new pages on all =
-    All-weaker (λ (page : PageData). All (PassesIn old) page.layers) (λ (page : PageData). All (PassesIn new) page.layers) (λ page. layers_still old new page.layers on) pages all
+-- a file was tested for its uses in the first i elements of a list, pages or layers, and it passed
+pub record AreTested (X : Type 0) (fault : ℕ → List ℕ → X → Option TagFault) (passes : FileTest → X → Type 0) (xs : List X) (i : ℕ) (start now : FileTest) : Type 0 where
+  pub goes_on : GoesOn start now
+  pub ahead : first_some (fault start.file start.bytes.now) xs ≡ first_some (fault start.file start.bytes.now) (drop i xs)
+  pub passed : All (passes now) (take i xs)
 
--- the fault in a layer at a later state of the test
-pub layer_same : (old new : FileTest) (layer : LayerData) → GoesOn old new
-    → layer_fault old.file old.bytes.now layer ≡ layer_fault new.file new.bytes.now layer
-layer_same old new layer on =
-    ap {A = ℕ} (λ n. layer_fault n old.bytes.now layer) (sym on.file) ∙ ap {A = List ℕ} (λ bytes. layer_fault new.file bytes layer) (sym on.bytes)
+-- one more
+pub tested_more : (X : Type 0) (fault : ℕ → List ℕ → X → Option TagFault) (passes : FileTest → X → Type 0) (xs : List X) (i : ℕ) (start now next : FileTest) (d : X)
+    → AreTested X fault passes xs i start now → ((x : X) → passes now x → passes next x) → i < length xs → GoesOn now next
+    → fault now.file now.bytes.now (get_or xs i d) ≡ None → passes next (get_or xs i d) → AreTested X fault passes xs (i + 1) start next
+tested_more X fault passes xs i start now next d are still within on none own = record {
+  goes_on = goes_on_then start now next are.goes_on on;
+  ahead = first_some-on (fault start.file start.bytes.now) xs i d within are.ahead (sym (fault_same fault start now (get_or xs i d) are.goes_on ∙ none));
+  passed = All-more (passes next) xs i d within (All-weaker (passes now) (passes next) still (take i xs) are.passed) own;
+}
 
-pub page_same : (old new : FileTest) (page : PageData) → GoesOn old new
-    → page_fault old.file old.bytes.now page ≡ page_fault new.file new.bytes.now page
-page_same old new page on =
-    ap {A = ℕ} (λ n. page_fault n old.bytes.now page) (sym on.file) ∙ ap {A = List ℕ} (λ bytes. page_fault new.file bytes page) (sym on.bytes)
+-- it is refused for the next one
+pub tested_refused : (X : Type 0) (fault : ℕ → List ℕ → X → Option TagFault) (passes : FileTest → X → Type 0) (xs : List X) (i : ℕ) (start now : FileTest) (d : X) (e : TestFault)
+    → AreTested X fault passes xs i start now → i < length xs → Refuses e (fault now.file now.bytes.now (get_or xs i d)) → Refuses e (first_some (fault start.file start.bytes.now) xs)
+tested_refused X fault passes xs i start now d e are within told =
+    told_found e (fault start.file start.bytes.now) xs i d within are.ahead (told_same e _ _ (fault_same fault start now (get_or xs i d) are.goes_on) told)
+
+-- all of them
+pub tested_all : (X : Type 0) (fault : ℕ → List ℕ → X → Option TagFault) (passes : FileTest → X → Type 0) (xs : List X) (i : ℕ) (start now : FileTest)
+    → AreTested X fault passes xs i start now → length xs ≤ i → i ≤ length xs → (first_some (fault start.file start.bytes.now) xs ≡ None) × All (passes now) xs
+tested_all X fault passes xs i start now are reached within =
+    (sym (first_some-end (fault start.file start.bytes.now) xs i reached within are.ahead), All-same (passes now) xs (take i xs) (sym (take_all i xs reached)) are.passed)
+
+-- what holds of a page whose layers all pass
+abbrev pub PassesOn : FileTest → PageData → Type 0
+PassesOn test page = All (PassesIn test) page.layers
+
+pub page_still : (old new : FileTest) (page : PageData) → GoesOn old new → PassesOn old page → PassesOn new page
+page_still old new page on all = All-weaker (PassesIn old) (PassesIn new) (λ layer. passes_still old new layer on) page.layers all
 
 -- the records of a file that passed for all its uses by a plan
 pub records_of : (plan : PlanData) (test : FileTest) → IsTested test

@@ -1,6 +1,5 @@
 -- Planes that show a row of a page hold the rows that are printed.
-use Rattle.std.proofs.Common.{◌≡◌, ◌≢◌, ℕ, ◌<◌, ◌≤◌, Bool, true, false, if◌then◌else◌, List, length, get_or, replicate, refl, sym, ap, ◌∙◌, subst, arith}
-use Rattle.std.proofs.lemmas.List.{get_or-replicate}
+use Rattle.std.proofs.Common.{◌≡◌, ℕ, ◌<◌, Bool, List, length, get_or, ap, ◌∙◌, subst, arith}
 use Rattle.std.proofs.lemmas.List.FromFn.{fill_by_all, get_or-map-range_with_len}
 use Rattle.pr_base.specs.declared.ink.Ink.{Ink}
 use Rattle.pr_base.specs.declared.ink.Ink.TheVariants.{C, M, Y, K, S}
@@ -9,31 +8,8 @@ use Rattle.page_layers.specs.declared.layer.Layer.{Layer}
 use Rattle.plan_json.specs.Data.{PlanData}
 use Rattle.plan_rows.specs.Groups.{page_colour, page_spot}
 use Rattle.press_job.specs.Layers.{layers_of}
-use Rattle.press_job.specs.declared.plane.Source.{Source}
-use Rattle.press_job.specs.declared.plane.Source.TheVariants.{Painted, Own, Blank}
-use Rattle.press_job.specs.Planes.{IsToned, ShowsInks, values_at}
-use Rattle.press_job.specs.Printing.{printed_at, printed_row, toned}
-
--- values that are not the plane's own: those of a painted row that no curve changes, or none of an ink that is
--- not printed
-pub IsToned-source : (plan : PlanData) (ink : Ink) (prints : Bool) (source : Source) (row own blank : List ℕ)
-    → source ≢ Own → ((x : ℕ) → x < length row → get_or row x 0 ≤ 255)
-    → (source ≡ Painted → (prints ≡ true) × ((value : ℕ) → value < 256 → toned plan ink value ≡ value))
-    → (source ≡ Blank → prints ≡ false) → blank ≡ replicate (length row) 0
-    → IsToned plan ink prints row (values_at source row own blank)
-IsToned-source plan ink prints Own row own blank other bytes painted none blank_is = absurd (other refl)
-IsToned-source plan ink prints Painted row own blank other bytes painted none blank_is = record {
-  values = λ x less.
-      let byte = bytes x less in
-      sym ((painted refl).1 (get_or row x 0) (omega arith)) ∙ ap (λ prints. if prints then toned plan ink (get_or row x 0) else 0) (sym (painted refl).0);
-  bytes = bytes;
-}
-IsToned-source plan ink prints Blank row own blank other bytes painted none blank_is =
-    let zero_at : (x : ℕ) → x < length row → get_or blank x 0 ≡ 0 = λ x less. ap (λ list. get_or list x 0) blank_is ∙ get_or-replicate (length row) x 0 0 less in
-    record {
-      values = λ x less. zero_at x less ∙ ap (λ prints. if prints then toned plan ink (get_or row x 0) else 0) (sym (none refl));
-      bytes = λ x less. rw (zero_at x less) (omega arith);
-    }
+use Rattle.press_job.specs.Planes.{ShowsInks}
+use Rattle.press_job.specs.Printing.{printed_at, printed_row}
 
 -- the value at column x of a row
 pub get_or-printed_row : (plan : PlanData) (files : List (List ℕ)) (page : ℕ) (ink : Ink) (x y : ℕ)

@@ -16,6 +16,7 @@ use Rattle.plan_pages.specs.Pages.{chosen_page}
 use Rattle.plan_pages.specs.Plate.{is_marked_at}
 use Rattle.plan_rows.specs.Groups.{group_of, site_pages, pair_groups, section_groups, groups_of}
 use Rattle.plan_rows.specs.Rows.{places_in}
+use Rattle.plan_rows.proofs.SmallPlan.{small as bare}
 use Rattle.press_job.specs.Layers.{layers_of}
 use Rattle.press_job.specs.Printing.{page_bit, printed_at}
 use Rattle.press_job.specs.Rows.{plate_bit, plate_rows}
@@ -49,18 +50,9 @@ layer = record {
 }
 
 abbrev small : PlanData
-small = record {
-  edition = codes "E1";
-  dpi = 1200;
-  page_width = 8;
-  page_height = 2;
-  margins = 0 ∷ 0 ∷ 0 ∷ 0 ∷ [];
-  gutter = 0;
-  limit = 1020;
-  tiles = [];
+small = record bare {
   screens = Bayer 8 ∷ Bayer 8 ∷ Bayer 8 ∷ Bayer 4 ∷ Bayer 8 ∷ [];
   curves = identity ∷ identity ∷ identity ∷ identity ∷ identity ∷ [];
-  marks = [];
   pages =
       record { name = codes "w"; colour = false; spot = false; layers = [] }
       ∷ record { name = codes "p"; colour = false; spot = false; layers = layer ∷ [] } ∷ [];

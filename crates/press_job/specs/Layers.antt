@@ -7,6 +7,7 @@ use Rattle.pr_base.specs.declared.fault.TagFault.{TagFault}
 use Rattle.tif_strips.specs.declared.shape.Shape.{Shape}
 use Rattle.tif_image.specs.declared.usage.BilevelUse.{BilevelUse}
 use Rattle.tif_image.specs.declared.usage.BilevelUse.TheVariants as usage
+use Rattle.tif_image.specs.Found.{nothing}
 use Rattle.tif_image.specs.Image.{BilevelImage, contone_shape, bilevel_shape}
 use Rattle.page_layers.specs.declared.layer.Art.{Art}
 use Rattle.page_layers.specs.declared.layer.Art.TheVariants.{Contone, Line}
@@ -22,16 +23,7 @@ bytes_at files file = slice_index_or files file []
 
 -- the shape in the fields of a file; a shape without pixels for a file that is refused
 abbrev pub shape_told : Result Shape TagFault → Shape
-shape_told told =
-    result_unwrap_or told (record {
-      width = 0;
-      length = 0;
-      samples = 0;
-      bits = 0;
-      planar = 0;
-      packed = false;
-      rows_per_strip = 0;
-    })
+shape_told told = result_unwrap_or told nothing.shape
 
 -- a file as a bilevel image for this use
 abbrev pub bilevel_of : BilevelUse → List ℕ → BilevelImage

@@ -1,14 +1,8 @@
-use Rattle.std.proofs.Common.{◌≡◌, drop, take}
-use Rattle.std.specs.Prelude.{All}
-use Rattle.pr_base.specs.First.{first_some}
-use Rattle.press_job.specs.Tested.{GoesOn, PassesIn}
+use Rattle.plan_parts.specs.Data.{LayerData}
+use Rattle.press_job.specs.Tested.{PassesIn}
 use Rattle.press_job.specs.Tests.{layer_fault}
+use Rattle.press_job.proofs.FindingLemmas.{AreTested}
 use Rattle.press_job.proofs.file_test.test_uses_in_layers.Given as goal
 
 abbrev pub invariant-loop-layer : goal.invariant-loop-layer
-invariant-loop-layer g l = record {
-  goes_on : GoesOn l.initial.test l.test;
-  ahead : first_some (layer_fault l.initial.test.file l.initial.test.bytes.now) l.layers
-      ≡ first_some (layer_fault l.initial.test.file l.initial.test.bytes.now) (drop l.layer-index l.layers);
-  passed : All (PassesIn l.test) (take l.layer-index l.layers);
-}
+invariant-loop-layer g l = AreTested LayerData layer_fault PassesIn l.layers l.layer-index l.initial.test l.test
