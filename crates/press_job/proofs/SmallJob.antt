@@ -36,7 +36,7 @@ image =
     ++ (8 ∷ 0 ∷ 8 ∷ 0 ∷ 8 ∷ 0 ∷ 8 ∷ 0 ∷ [])
     ++ (0 ∷ 0 ∷ 0 ∷ 1 ∷ 0 ∷ 0 ∷ 0 ∷ 127 ∷ 0 ∷ 0 ∷ 0 ∷ 31 ∷ 0 ∷ 0 ∷ 0 ∷ 255 ∷ [])
 
-abbrev layer : PlanLayer
+abbrev pub layer : PlanLayer
 layer = record {
   line = false;
   file = 0;
@@ -49,7 +49,7 @@ layer = record {
   ink = 0 ∷ 0 ∷ 0 ∷ 0 ∷ 0 ∷ [];
 }
 
-abbrev small : PlanData
+abbrev pub small : PlanData
 small = record bare {
   screens = Bayer 8 ∷ Bayer 8 ∷ Bayer 8 ∷ Bayer 4 ∷ Bayer 8 ∷ [];
   curves = identity ∷ identity ∷ identity ∷ identity ∷ identity ∷ [];

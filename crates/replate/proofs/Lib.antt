@@ -12,4 +12,3 @@ pub mod DeliveryLemmas
 pub mod LoopLemmas
 pub mod WantedLemmas
 pub mod PassLemmas
-mod SmallJobs

@@ -1,11 +1,9 @@
 -- Lists compared element by element.
 use Rattle.std.proofs.Common.{◌≡◌, ℕ, ◌+◌, ◌<◌, Bool, true, false, List, [], ◌∷◌, ◌++◌, length, map, get_or, take, append_assoc, append-nil, refl, ap, sym, ◌∙◌, arith}
-use Rattle.std.specs.Prelude.{filter}
 use Rattle.std.specs.List.{flat_map}
 use Rattle.std.specs.Bool.{Decides, beq}
-use Rattle.std.proofs.lemmas.List.{take_more, get_or-map, length-map, map-append}
+use Rattle.std.proofs.lemmas.List.{take_more, get_or-map, length-map, map_more}
 use Rattle.std.proofs.lemmas.List.Concat.{flat_map-append}
-use Rattle.std.proofs.lemmas.List.Elements.{filter-append}
 
 -- where two elements differ, the lists differ
 pub maps_differ : {X Y : Type 0} (f g : X → Y) (xs ys : List X) (i : ℕ) (d : X) → i < length xs → i < length ys
@@ -28,18 +26,22 @@ flags_decide true false = (λ same. sym same, λ same. sym same)
 flags_decide false true = (λ same. same, λ same. same)
 flags_decide false false = (λ _. refl, λ _. refl)
 
--- ---- lists that are filtered piece by piece
+-- ---- lists that are made piece by piece, each piece by a function that keeps joins
 
-pub filter_more : {X Y : Type 0} (test : Y → Bool) (f : X → List Y) (old : List Y) (xs : List X) (i : ℕ) (d : X) → i < length xs
-    → (old ++ filter test (flat_map f (take i xs))) ++ filter test (f (get_or xs i d)) ≡ old ++ filter test (flat_map f (take (i + 1) xs))
-filter_more test f old xs i d within =
-    append_assoc old (filter test (flat_map f (take i xs))) (filter test (f (get_or xs i d)))
-    ∙ ap (λ l. old ++ l) (sym (filter-append test (flat_map f (take i xs)) (f (get_or xs i d)))
-    ∙ ap (λ l. filter test l) (sym (ap (λ l. flat_map f l) (take_more xs i d within) ∙ flat_map-append f (take i xs) (get_or xs i d ∷ []) ∙ ap (λ l. flat_map f (take i xs) ++ l) (append-nil (f (get_or xs i d))))))
+pub joined_more : {X Y Z : Type 0} (g : List Y → List Z) → ((a b : List Y) → g (a ++ b) ≡ g a ++ g b)
+    → (f : X → List Y) (old : List Z) (xs : List X) (i : ℕ) (d : X) → i < length xs
+    → (old ++ g (flat_map f (take i xs))) ++ g (f (get_or xs i d)) ≡ old ++ g (flat_map f (take (i + 1) xs))
+joined_more g joins f old xs i d within =
+    append_assoc old (g (flat_map f (take i xs))) (g (f (get_or xs i d)))
+    ∙ ap (λ l. old ++ l) (sym (joins (flat_map f (take i xs)) (f (get_or xs i d)))
+    ∙ ap (λ l. g l) (sym (ap (λ l. flat_map f l) (take_more xs i d within) ∙ flat_map-append f (take i xs) (get_or xs i d ∷ [])
+    ∙ ap (λ l. flat_map f (take i xs) ++ l) (append-nil (f (get_or xs i d))))))
 
-pub filter_map_more : {X Y : Type 0} (test : Y → Bool) (f : X → Y) (old : List Y) (xs : List X) (i : ℕ) (d : X) → i < length xs
-    → (old ++ filter test (map f (take i xs))) ++ filter test (f (get_or xs i d) ∷ []) ≡ old ++ filter test (map f (take (i + 1) xs))
-filter_map_more test f old xs i d within =
-    append_assoc old (filter test (map f (take i xs))) (filter test (f (get_or xs i d) ∷ []))
-    ∙ ap (λ l. old ++ l) (sym (filter-append test (map f (take i xs)) (f (get_or xs i d) ∷ []))
-    ∙ ap (λ l. filter test l) (sym (ap (λ l. map f l) (take_more xs i d within) ∙ map-append f (take i xs) (get_or xs i d ∷ []))))
+-- the same for pieces of one element
+pub one_more : {X Y Z : Type 0} (g : List Y → List Z) → ((a b : List Y) → g (a ++ b) ≡ g a ++ g b)
+    → (f : X → Y) (old : List Z) (xs : List X) (i : ℕ) (d : X) → i < length xs
+    → (old ++ g (map f (take i xs))) ++ g (f (get_or xs i d) ∷ []) ≡ old ++ g (map f (take (i + 1) xs))
+one_more g joins f old xs i d within =
+    append_assoc old (g (map f (take i xs))) (g (f (get_or xs i d) ∷ []))
+    ∙ ap (λ l. old ++ l) (sym (joins (map f (take i xs)) (f (get_or xs i d) ∷ []))
+    ∙ ap (λ l. g l) (sym (map_more f xs i d within)))

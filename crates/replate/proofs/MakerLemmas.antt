@@ -1,5 +1,5 @@
 -- A site of a delivery and a row: the site continues, it leaves, or its rack runs out of memory.
-use Rattle.std.proofs.Common.{◌≡◌, ℕ, ◌+◌, ◌<◌, Bool, true, false, List, length, map, take, Option, Some, IfSome, refl, sym, ap, subst, ◌∙◌, inl, inr, arith}
+use Rattle.std.proofs.Common.{◌≡◌, ℕ, ◌+◌, Bool, true, false, List, map, take, Option, Some, refl, sym, ap, subst, ◌∙◌, inl, inr, arith}
 use Rattle.std.specs.Prelude.{slice_get}
 use Rattle.std.proofs.lemmas.List.{length-map}
 use Rattle.std.proofs.lemmas.Option.{get_or_from_slice_get, slice_get_within}
@@ -12,7 +12,7 @@ use Rattle.tif_packbits.proofs.Frames.{AreFrames-frame}
 use Rattle.pr_rack.specs.declared.rack.RackCall.{RackCall}
 use Rattle.pr_rack.specs.declared.rack.RackCall.TheVariants.{Begin, Row, Finish}
 use Rattle.pr_rack.specs.Rack.{with_row}
-use Rattle.pr_rack.specs.Told.{RackTells, Tells}
+use Rattle.pr_rack.specs.Told.{RackTells}
 use Rattle.plan_json.specs.Data.{plate_width}
 use Rattle.site_agent.specs.declared.kept.Kept.TheVariants as kept
 use Rattle.site_agent.specs.declared.kept.LeftCause.{LeftCause}
@@ -22,7 +22,7 @@ use Rattle.site_agent.specs.Kept.{GoesOn, IsCauseAt, TakenOnce}
 use Rattle.site_agent.specs.Picked.{picked_job}
 use Rattle.site_agent.specs.Refused.{OthersStayFor, taken_at}
 use Rattle.site_agent.specs.Site.{SiteData}
-use Rattle.site_agent.specs.Stands.{AreAsLong, AreBegun, OthersHold, StandsAfter, grown, taken_below}
+use Rattle.site_agent.specs.Stands.{OthersHold, StandsAfter, grown, taken_below}
 use Rattle.site_agent.proofs.Counting.{any}
 use Rattle.site_agent.proofs.Drawing.{Keeps, row-taken}
 use Rattle.site_agent.proofs.Going.{going_further, going_within, going_sides, going_begun, going_working}
@@ -33,7 +33,7 @@ use Rattle.site_agent.proofs.Steps.{is_kept-row}
 use Rattle.replate.specs.declared.maker.Maker.{Maker}
 use Rattle.replate.specs.declared.remade.RemadeEnd.{RemadeEnd}
 use Rattle.replate.specs.declared.remade.RemadeEnd.TheVariants.{Done, Left}
-use Rattle.replate.specs.Making.{Carries, GoesOnAt, HasLeft, HasPart, Made, ServedBy, SomeServed, Stopped, has_left}
+use Rattle.replate.specs.Making.{Asks, Carries, GoesOnAt, HasLeft, HasPart, Made, ServedBy, SomeServed, Stopped, has_left}
 use Rattle.replate.specs.Remade.{AreTakenUpTo, Making, drawn_below, files_for, job_for}
 
 -- ---- the row
@@ -110,15 +110,6 @@ is_done (Left made path) on = absurd (let e : true ≡ false = on in cc)
 pub going_of : (making : Making) (site n : ℕ) (before now : RackTells) (going : SiteData) (end : RemadeEnd) (made kept' : ℕ) → end ≡ Done made kept' → ServedBy making site n before now going end
     → GoesOnAt making site n before now going made kept'
 going_of making site n before now going end made kept' is served = subst (λ (e : RemadeEnd). ServedBy making site n before now going e) is served
-
-pub record Asks (going : SiteData) (held : HeldRow) (now : Tells) : Type 0 where
-  pub on : going.ended ≡ false
-  pub next_is : held.number ≡ going.next
-  pub within : going.next < going.job.total
-  pub frame : IsFrame held.bytes
-  pub row : length (framed_row held.bytes) ≡ row_size going.job.width
-  pub begun : AreBegun going.job going.next now.begun
-  pub working : IfSome now.working (AreAsLong going.job going.next going.counts)
 
 pub asks : (frames : List (List ℕ)) (n : ℕ) (now : RackTells) (maker : Maker) (held : HeldRow) → SomeServed frames n now maker → has_left maker.end ≡ false → held.number ≡ n
     → slice_get frames held.number ≡ Some held.bytes → Asks maker.site held now.tells

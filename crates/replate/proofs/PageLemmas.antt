@@ -9,7 +9,7 @@ use Rattle.plan_parts.specs.Parts.{IsLayer}
 use Rattle.plan_json.specs.Data.{PlanData}
 use Rattle.replate.specs.declared.classes.Classes.{Classes}
 use Rattle.replate.specs.Classes.{AreClasses, class_of, classed, classed_page}
-use Rattle.replate.specs.Recipe.{LayerRecipe, PageRecipe, file_at, layer_recipe, page_recipe}
+use Rattle.replate.specs.Recipe.{LayerRecipe, PageRecipe, file_at, layer_recipe, page_recipe, without_files}
 use Rattle.replate.proofs.ClassLemmas.{class_tells}
 
 -- ---- one page of the plan
@@ -64,33 +64,13 @@ module _ (olds news : List (List ℕ)) (classes : Classes) (are : AreClasses old
   layers_tell a b left right same =
       let image = files_tell a.file b.file left.file right.file (ap {A = LayerData} (λ l. l.file) same) in
       let mask = masks_tell a.mask b.mask left.mask right.mask (ap {A = LayerData} (λ l. l.mask) same) in
-      λ i. record {
-        line = (same i).line;
-        image = image i;
-        x = (same i).x;
-        y = (same i).y;
-        scale = (same i).scale;
-        crop = (same i).crop;
-        mask = mask i;
-        overprint = (same i).overprint;
-        ink = (same i).ink;
-      }
+      λ i. record { rest = without_files (same i); image = image i; mask = mask i }
 
   layers_same : (a b : LayerData) → IsLayer (length olds) a → IsLayer (length news) b → layer_recipe olds a ≡ layer_recipe news b → classed classes.before.items a ≡ classed classes.after.items b
   layers_same a b left right same =
       let file = files_same a.file b.file left.file right.file (ap {A = LayerRecipe} (λ l. l.image) same) in
       let mask = masks_same a.mask b.mask left.mask right.mask (ap {A = LayerRecipe} (λ l. l.mask) same) in
-      λ i. record {
-        line = (same i).line;
-        file = file i;
-        x = (same i).x;
-        y = (same i).y;
-        scale = (same i).scale;
-        crop = (same i).crop;
-        mask = mask i;
-        overprint = (same i).overprint;
-        ink = (same i).ink;
-      }
+      λ i. record (same i).rest { file = file i; mask = mask i }
 
 -- ---- all layers
 

@@ -1,11 +1,11 @@
 -- Which plates a plan has, and which of them has a path.
-use Rattle.std.proofs.Common.{◌≡◌, ◌≢◌, ℕ, ◌<◌, Bool, true, false, cond, eqb, List, [], ◌∷◌, length, get_or, refl, ap, sym, zero-add, ◌∙◌, inl, inr, arith}
+use Rattle.std.proofs.Common.{◌≡◌, ◌≢◌, ℕ, ◌+◌, ◌<◌, ◌≤◌, Bool, true, false, cond, eqb, List, [], ◌∷◌, ◌++◌, length, get_or, take, refl, ap, sym, zero-add, ◌∙◌, inl, inr, arith}
 use Rattle.std.specs.Prelude.{◌||◌}
 use Rattle.std.specs.List.{enumerate_from, flat_map, list_any, range_with_len}
 use Rattle.std.specs.Str.{bytes_eq}
 use Rattle.std.specs.Cmp.Lexicographic.{bytes_decides}
 use Rattle.std.proofs.lemmas.Bool.{cases_Bool, false≢true, both_ways, false_from_ne_true}
-use Rattle.std.proofs.lemmas.List.{length-map, get_or-map, get_or_default}
+use Rattle.std.proofs.lemmas.List.{length-map, get_or-map, get_or_default, take_all}
 use Rattle.std.proofs.lemmas.List.Folds.{Any-from_list_any, list_any-append, list_any_at}
 use Rattle.std.proofs.lemmas.List.FromFn.{length-range_with_len, get_or-range_with_len, length-enumerate_from, get_or-enumerate_from}
 use Rattle.pr_base.specs.declared.ink.Ink.{Ink}
@@ -19,6 +19,7 @@ use Rattle.plan_rows.specs.Groups.{groups_of}
 use Rattle.replate.specs.Plates.{PlateAt, IsPlateOf, all_plates, group_at, has_path, ink_plates, group_in, path_below, plates_in, plates_of}
 use Rattle.replate.specs.Standing.{StandsFor}
 use Rattle.replate.proofs.GroupLemmas.{group_in_plan, inks_alike, stand_alike}
+use Rattle.replate.proofs.ListLemmas.{joined_more}
 use Rattle.plan_rows.proofs.InkLemmas.{has_ink-at, has_ink-in}
 use Rattle.plan_rows.proofs.Names.{CanTell, paths_same, paths_tell}
 
@@ -74,6 +75,26 @@ pub pair_at : (plan : PlanData) (index : ℕ) → index < length (groups_of plan
 pair_at plan index within =
     get_or-enumerate_from 0 (groups_of plan) index (0, group_in [] 0) within
     ∙ ap {A = ℕ} {B = ℕ × Group} (λ n. (n, group_at plan index)) (zero-add index)
+
+-- what is made of a site's plates group by group, by a function that keeps joins: one group more
+pub next_group : {X : Type 0} (g : List PlateAt → List X) → ((a b : List PlateAt) → g (a ++ b) ≡ g a ++ g b)
+    → (plan : PlanData) (site index : ℕ) (old now next : List X) → index < length (groups_of plan)
+    → now ≡ old ++ g (flat_map (plates_in site) (take index (enumerate_from 0 (groups_of plan))))
+    → next ≡ now ++ g (plates_in site (index, group_at plan index))
+    → next ≡ old ++ g (flat_map (plates_in site) (take (index + 1) (enumerate_from 0 (groups_of plan))))
+next_group g joins plan site index old now next within before is =
+    let pairs = enumerate_from 0 (groups_of plan) in
+    is ∙ ap (λ l. l ++ g (plates_in site (index, group_at plan index))) before
+    ∙ ap (λ p. (old ++ g (flat_map (plates_in site) (take index pairs))) ++ g (plates_in site p)) (sym (pair_at plan index within))
+    ∙ joined_more g joins (plates_in site) old pairs index (0, group_in [] 0) (omega (arith, within, length-enumerate_from 0 (groups_of plan)))
+
+-- all groups
+pub every_group : {X : Type 0} (g : List PlateAt → List X) (plan : PlanData) (site index : ℕ) (old now : List X) → length (groups_of plan) ≤ index
+    → now ≡ old ++ g (flat_map (plates_in site) (take index (enumerate_from 0 (groups_of plan)))) → now ≡ old ++ g (plates_of plan site)
+unfolding plates_of
+every_group g plan site index old now all is =
+    let pairs = enumerate_from 0 (groups_of plan) in
+    is ∙ ap (λ l. old ++ g (flat_map (plates_in site) l)) (take_all index pairs (omega (arith, all, length-enumerate_from 0 (groups_of plan))))
 
 -- a plate that passes is one of those of its site
 pub any_of_site : (plan : PlanData) (test : PlateAt → Bool) (plate : PlateAt) → IsPlateOf plan plate → test plate ≡ true → list_any test (plates_of plan plate.site) ≡ true

@@ -1,5 +1,5 @@
 -- Which plates of a site must be made: flags collected group by group, one for each plate of the site.
-use Rattle.std.proofs.Common.{◌≡◌, ℕ, ◌+◌, ◌<◌, Bool, true, false, cond, if◌then◌else◌, List, [], ◌∷◌, ◌++◌, ◌≤◌, length, map, get_or, set, take, append_assoc, append-nil, inl, inr, refl, ap, sym, subst, ◌∙◌, zero-add, arith}
+use Rattle.std.proofs.Common.{◌≡◌, ℕ, ◌+◌, ◌<◌, Bool, true, false, cond, if◌then◌else◌, List, [], ◌∷◌, ◌++◌, ◌≤◌, length, get_or, set, inl, inr, refl, ap, sym, subst, ◌∙◌, zero-add, arith}
 use Rattle.std.specs.Prelude.{filter}
 use Rattle.std.specs.List.{enumerate_from, flat_map, range_with_len}
 use Rattle.std.proofs.lemmas.Bool.{cases_eq}
@@ -7,8 +7,7 @@ use Rattle.std.proofs.lemmas.Grind.{get_or-set_at}
 use Rattle.std.proofs.lemmas.List.Folds.{list_any_at, list_any_none}
 use Rattle.std.proofs.lemmas.List.FromFn.{get_or-range_with_len, length-range_with_len}
 use Rattle.std.proofs.lemmas.List.{get_or_append_left, get_or_default, get_or_push, get_or-set_other}
-use Rattle.std.proofs.lemmas.List.{length-append, length-map, map-append, map_more, take_more}
-use Rattle.std.proofs.lemmas.List.Concat.{flat_map-append}
+use Rattle.std.proofs.lemmas.List.{length-append, length-map}
 use Rattle.plan_json.specs.Data.{PlanData}
 use Rattle.plan_rows.specs.declared.group.Group.{Group}
 use Rattle.plan_rows.specs.Inks.{has_site, inks_of}
@@ -21,18 +20,6 @@ use Rattle.replate.specs.Picks.{PicksData}
 use Rattle.replate.specs.Plates.{group_at, ink_plates, plates_in, plates_of}
 use Rattle.replate.specs.Remade.{is_picked, picked_bits}
 use Rattle.replate.specs.Wanted.{AreWanted, made_for, some_made}
-
-pub flat_more : {X Y Z : Type 0} (g : Y → Z) (f : X → List Y) (xs : List X) (i : ℕ) (d : X) → i < length xs
-    → map g (flat_map f (take i xs)) ++ map g (f (get_or xs i d)) ≡ map g (flat_map f (take (i + 1) xs))
-flat_more g f xs i d within =
-    sym (map-append g (flat_map f (take i xs)) (f (get_or xs i d)))
-    ∙ ap (map g) (sym (ap (flat_map f) (take_more xs i d within) ∙ flat_map-append f (take i xs) (get_or xs i d ∷ []) ∙ ap (λ l. flat_map f (take i xs) ++ l) (append-nil (f (get_or xs i d)))))
-
-pub map_map_more : {X Y Z : Type 0} (g : Y → Z) (f : X → Y) (old : List Z) (xs : List X) (i : ℕ) (d : X) → i < length xs
-    → (old ++ map g (map f (take i xs))) ++ g (f (get_or xs i d)) ∷ [] ≡ old ++ map g (map f (take (i + 1) xs))
-map_map_more g f old xs i d within =
-    append_assoc old (map g (map f (take i xs))) (g (f (get_or xs i d)) ∷ [])
-    ∙ ap (λ l. old ++ l) (sym (ap (map g) (map_more f xs i d within) ∙ map-append g (map f (take i xs)) (f (get_or xs i d) ∷ [])))
 
 groups-count : (site k : ℕ) (groups : List Group) → length (flat_map (plates_in site) (enumerate_from k groups)) ≡ length (flat_map group_plates (filter (λ group. has_site group site) groups))
 groups-count site k [] = refl

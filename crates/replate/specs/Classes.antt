@@ -9,6 +9,7 @@ use Rattle.std.specs.Ordering.{nat_cmp, ordering_then}
 use Rattle.std.specs.Str.{bytes_eq}
 use Rattle.plan_parts.specs.Data.{LayerData, PageData}
 use Rattle.replate.specs.declared.classes.Classes.{Classes}
+use Rattle.replate.specs.declared.kept.Compared.{Compared}
 
 -- the index of the first file with these bytes, or the number of files where none has them
 abbrev pub class_of : List (List ℕ) → List ℕ → ℕ
@@ -18,6 +19,10 @@ class_of files bytes = position_or_len (bytes_eq bytes) files
 pub record AreClasses (olds news : List (List ℕ)) (classes : Classes) : Type 0 where
   pub old : classes.before.items ≡ map (class_of olds) olds
   pub new : classes.after.items ≡ map (class_of olds) news
+
+-- the same of an old and a new job that are compared
+abbrev pub AreCompared : Compared → Type 0
+AreCompared jobs = AreClasses jobs.before.now.files jobs.after.now.files jobs.classes.now
 
 -- a layer with the classes of its image and its mask in place of their indexes
 abbrev pub classed : List ℕ → LayerData → LayerData

@@ -1,16 +1,19 @@
 -- The progress of a delivery's sites. This is the contract of private calls.
 use Rattle.std.specs.Prelude.{◌≡◌, ℕ, ◌+◌, ◌-◌, ◌<◌, ◌≤◌, ◌==◌, Bool, true, false, not, List, length, map}
-use Rattle.std.specs.Prelude.{count_by, Some, slice_get}
+use Rattle.std.specs.Prelude.{count_by, Some, IfSome, slice_get}
 use Rattle.std.specs.List.{range_with_len}
+use Rattle.pr_base.specs.Row.{row_size}
+use Rattle.ring_lanes.specs.Held.{HeldRow}
 use Rattle.ring_lanes.specs.declared.source.Source.TheVariants.{Deck}
-use Rattle.pr_rack.specs.Told.{RackTells}
+use Rattle.pr_rack.specs.Told.{RackTells, Tells}
 use Rattle.plan_json.specs.Data.{PlanData}
 use Rattle.plan_json.specs.Plan.{IsPlan}
 use Rattle.site_agent.specs.Given.{finished_count, is_kept}
 use Rattle.site_agent.specs.Going.{IsGoing}
 use Rattle.site_agent.specs.Picked.{picked_job, picked_site}
 use Rattle.site_agent.specs.Site.{SiteData}
-use Rattle.tif_packbits.specs.Frame.{framed_row}
+use Rattle.site_agent.specs.Stands.{AreAsLong, AreBegun}
+use Rattle.tif_packbits.specs.Frame.{IsFrame, framed_row}
 use Rattle.replate.specs.declared.maker.Maker.{Maker}
 use Rattle.replate.specs.declared.remade.RemadeEnd.{RemadeEnd}
 use Rattle.replate.specs.declared.remade.RemadeEnd.TheVariants.{Done, Left}
@@ -80,6 +83,18 @@ pub record Made (frames : List (List ℕ)) (n : ℕ) (old new : RackTells) (was 
 pub record Stopped (frames : List (List ℕ)) (n : ℕ) (old new : RackTells) (was : Maker) : Type 0 where
   pub each : (making : Making) (site : ℕ) (before : RackTells) → Carries making frames
       → IsServed making site n before old was → HasPart making site before new
+
+-- ---- a row that is kept
+
+-- what `Site::keep` requires of a site, a row and the site's rack
+pub record Asks (going : SiteData) (held : HeldRow) (now : Tells) : Type 0 where
+  pub on : going.ended ≡ false
+  pub next_is : held.number ≡ going.next
+  pub within : going.next < going.job.total
+  pub frame : IsFrame held.bytes
+  pub row : length (framed_row held.bytes) ≡ row_size going.job.width
+  pub begun : AreBegun going.job going.next now.begun
+  pub working : IfSome now.working (AreAsLong going.job going.next going.counts)
 
 -- ---- plates that are left to make
 

@@ -1,11 +1,11 @@
 -- The recipe of a plate: everything that its file is made of, as plain data. It contains no names of files,
 -- pages, tiles, sections or zones: images, masks and tiles are included themselves.
-use Rattle.std.specs.Prelude.{ℕ, Bool, List, [], map, slice_get, slice_index_or, Option, option_map}
+use Rattle.std.specs.Prelude.{ℕ, Bool, List, [], map, slice_get, slice_index_or, Option, None, option_map}
 use Rattle.std.specs.Option.{option_map_or}
 use Rattle.pr_base.specs.declared.ink.Ink.{Ink}
 use Rattle.plan_parts.specs.declared.printing.Screen.{Screen}
 use Rattle.plan_parts.specs.declared.printing.Screen.TheVariants as screens
-use Rattle.plan_parts.specs.Data.{CurveData, LayerData, MarkData, TileData}
+use Rattle.plan_parts.specs.Data.{LayerData, TileData}
 use Rattle.plan_json.specs.Data.{PlanData}
 use Rattle.pr_base.specs.Ink.{slot_of}
 use Rattle.plan_rows.specs.Groups.{page_colour, page_spot}
@@ -40,15 +40,10 @@ screen_of plan ink = slice_index_or plan.screens (slot_of ink) screens.Diffuse
 
 -- a layer, with the bytes of its image and its mask
 pub record LayerRecipe : Type 0 where
-  pub line : Bool
+  -- the layer without its files
+  pub rest : LayerData
   pub image : List ℕ
-  pub x : ℕ
-  pub y : ℕ
-  pub scale : ℕ
-  pub crop : Option (List ℕ)
   pub mask : Option (List ℕ)
-  pub overprint : Bool
-  pub ink : List ℕ
 
 -- a page; the first layer is at the bottom
 pub record PageRecipe : Type 0 where
@@ -60,17 +55,15 @@ pub record PageRecipe : Type 0 where
 abbrev pub file_at : List (List ℕ) → ℕ → List ℕ
 file_at files file = slice_index_or files file []
 
+-- a layer without a mask, and with 0 in place of the index of its image
+abbrev pub without_files : LayerData → LayerData
+without_files layer = record layer { file = 0; mask = None }
+
 abbrev pub layer_recipe : List (List ℕ) → LayerData → LayerRecipe
 layer_recipe files layer = record {
-  line = layer.line;
+  rest = without_files layer;
   image = file_at files layer.file;
-  x = layer.x;
-  y = layer.y;
-  scale = layer.scale;
-  crop = layer.crop;
   mask = option_map (file_at files) layer.mask;
-  overprint = layer.overprint;
-  ink = layer.ink;
 }
 
 -- the layers of a page in the plan
@@ -86,32 +79,24 @@ page_recipe plan files page = record {
 
 -- ---- plates
 
--- what all plates of a plan have in common: all curves and all marks, of every ink
-pub record Settings : Type 0 where
-  pub dpi : ℕ
-  pub page_width : ℕ
-  pub page_height : ℕ
-  pub margins : List ℕ
-  pub gutter : ℕ
-  pub limit : ℕ
-  pub marks : List MarkData
-  pub curves : List CurveData
-
-abbrev pub settings_of : PlanData → Settings
-settings_of plan = record {
-  dpi = plan.dpi;
-  page_width = plan.page_width;
-  page_height = plan.page_height;
-  margins = plan.margins;
-  gutter = plan.gutter;
-  limit = plan.limit;
-  marks = plan.marks;
-  curves = plan.curves;
+-- what all plates of a plan have in common: the plan with nothing but its resolution, its measures, its ink
+-- limit, and all curves and all marks, of every ink
+abbrev pub settings_of : PlanData → PlanData
+settings_of plan = record plan {
+  edition = [];
+  tiles = [];
+  screens = [];
+  pages = [];
+  sections = [];
+  zones = [];
+  sites = [];
+  files = [];
 }
 
 -- the recipe of a plate
 pub record Recipe : Type 0 where
-  pub settings : Settings
+  -- the settings of its plan
+  pub settings : PlanData
   -- how its ink is screened
   pub screen : ScreenRecipe
   pub left : PageRecipe

@@ -1,5 +1,5 @@
 // The old plates whose path no new plate has.
-ghost use Rattle.std.specs.Prelude.{◌≡◌, ◌<◌, ◌++◌, ◌∷◌, [], ℕ, IfOk, OnOk, filter, length};
+ghost use Rattle.std.specs.Prelude.{◌≡◌, ◌<◌, ◌++◌, ◌∷◌, [], ℕ, IfOk, OnOk, filter, if◌then◌else◌, length};
 ghost use Rattle.std.specs.Option.{ForNone, ForSome};
 ghost use Rattle.plan_json.specs.Plan.{IsPlan};
 ghost use Rattle.plan_rows.specs.Groups.{groups_of};
@@ -73,36 +73,25 @@ fn add_group(
             group: index,
             ink: *ink,
         };
-        add_plate(plates, before, after, plate, place)?;
+        let dropped = is_dropped(before, after, plate, place);
+        add_dropped(plates, plate, dropped)?;
     }
     Ok(())
 }
 
-/// Adds an old plate if no new plate has its path. Its place is the site and group of the new plates that
-/// could have it.
-fn add_plate(
-    plates: &mut Vec<OldPlate>,
-    before: &Inputs<'_>,
-    after: &Inputs<'_>,
-    plate: OldPlate,
-    place: Option<(usize, usize)>,
-) -> Result<(), NoMemory>
-    requires site { plate.site < length before.now.plan.sites }
-    requires group { plate.group < length (groups_of before.now.plan) }
-    requires found { ForSome place (λ at. StandsFor before.now.plan plate.site
-        (group_at before.now.plan plate.group) after.now.plan at.0 at.1) }
-    requires none { ForNone place ((its index : ℕ) → StandsFor before.now.plan plate.site
-        (group_at before.now.plan plate.group) after.now.plan its index → ⊥) }
-    ensures { OnOk result (plates.new.items ≡ plates.old.items
-        ++ filter (is_left_out before.now.plan after.now.plan) (plate ∷ [])) }
+/// Adds a plate if it is dropped.
+fn add_dropped(plates: &mut Vec<OldPlate>, plate: OldPlate, dropped: bool) -> Result<(), NoMemory>
+    ensures { OnOk result (plates.new.items
+        ≡ plates.old.items ++ (if dropped then plate ∷ [] else [])) }
 {
-    if is_dropped(before, after, plate, place) {
+    if dropped {
         plates.push(plate)?;
     }
     Ok(())
 }
 
-/// Returns whether no new plate has the path of an old one.
+/// Returns whether no new plate has the path of an old one. Its place is the site and group of the new plates
+/// that could have it.
 fn is_dropped(
     before: &Inputs<'_>,
     after: &Inputs<'_>,

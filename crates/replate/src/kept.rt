@@ -4,7 +4,7 @@ ghost use Rattle.plan_parts.specs.Parts.{IsLayer};
 ghost use Rattle.plan_json.specs.Plan.{IsPlan};
 ghost use Rattle.plan_rows.specs.Groups.{groups_of};
 ghost use Rattle.plan_rows.specs.Inks.{has_site as is_of_site};
-ghost use Rattle.replate.specs.Classes.{AreClasses};
+ghost use Rattle.replate.specs.Classes.{AreClasses, AreCompared};
 ghost use Rattle.replate.specs.Plates.{group_at};
 ghost use Rattle.replate.specs.Recipe.{page_recipe};
 ghost use Rattle.replate.specs.Standing.{AreAllKept, AreKept, IsOfPlan, SamePages, Stays};
@@ -17,6 +17,14 @@ use plan_json::Page;
 use plan_rows::Group;
 use pr_base::{NoMemory, SITES};
 use std::alloc::Global;
+
+/// An old and a new job, and the classes of their files.
+#[derive(Drop)]
+struct Compared<'c> {
+    before: &'c Inputs<'c>,
+    after: &'c Inputs<'c>,
+    classes: &'c Classes,
+}
 
 /// Returns, for each new group and each site, whether the old job has the same two pages at its place.
 pub(crate) fn kept_groups(
@@ -33,95 +41,82 @@ pub(crate) fn kept_groups(
 {
     let plan = after.plan();
     let sites = plan.site_count();
+    let jobs = Compared {
+        before,
+        after,
+        classes,
+    };
     let mut kept = Vec::new(alloc);
     for index in 0..group_count(after) {
         let group = group_with(after, index);
-        let row = kept_sites(before, after, classes, group, sites);
+        let row = kept_sites(&jobs, group, sites);
         kept.push(row)?;
     }
     Ok(kept)
 }
 
 /// Returns, for each site, whether the old job has the same two pages at the place of a new group.
-fn kept_sites(
-    before: &Inputs<'_>,
-    after: &Inputs<'_>,
-    classes: &Classes,
-    group: &Group,
-    sites: usize,
-) -> [bool; SITES]
-    requires classes { AreClasses before.now.files after.now.files classes.now }
-    requires group { IsOfPlan after.now.plan group.now }
-    requires sites { sites ≡ length after.now.plan.sites }
+fn kept_sites(jobs: &Compared<'_>, group: &Group, sites: usize) -> [bool; SITES]
+    requires classes { AreCompared jobs.now }
+    requires group { IsOfPlan jobs.now.after.now.plan group.now }
+    requires sites { sites ≡ length jobs.now.after.now.plan.sites }
     requires few { sites ≤ 16 }
-    ensures { AreKept before.now after.now group.now (length after.now.plan.sites) result }
+    ensures { AreKept jobs.now.before.now jobs.now.after.now group.now
+        (length jobs.now.after.now.plan.sites) result }
 {
     let mut row = [false; SITES];
     for site in 0..sites {
-        row[site] = is_kept(before, after, classes, site, group);
+        row[site] = is_kept(jobs, site, group);
     }
     row
 }
 
 /// Returns whether a new group has a site, and the old job has the same two pages at its place.
-fn is_kept(
-    before: &Inputs<'_>,
-    after: &Inputs<'_>,
-    classes: &Classes,
-    site: usize,
-    group: &Group,
-) -> bool
-    requires classes { AreClasses before.now.files after.now.files classes.now }
+fn is_kept(jobs: &Compared<'_>, site: usize, group: &Group) -> bool
+    requires classes { AreCompared jobs.now }
     requires few { site < 16 }
-    requires site { site < length after.now.plan.sites }
-    requires group { IsOfPlan after.now.plan group.now }
+    requires site { site < length jobs.now.after.now.plan.sites }
+    requires group { IsOfPlan jobs.now.after.now.plan group.now }
     ensures found { IsTrue result
-        → (its : ℕ) × ((index : ℕ) × Stays before.now after.now site group.now its index) }
+        → (its : ℕ) × ((index : ℕ) × Stays jobs.now.before.now jobs.now.after.now site group.now its index) }
     ensures each { (its index : ℕ) → IsTrue (is_of_site group.now site)
-        → Stays before.now after.now site group.now its index → IsTrue result }
+        → Stays jobs.now.before.now jobs.now.after.now site group.now its index → IsTrue result }
 {
     if !group.has_site(site) {
         return false;
     }
-    match counterpart(after.plan(), site, group, before.plan(), before.rows()) {
-        Some((_its, index)) => same_pages(before, after, classes, index, group),
+    let (old, new) = (jobs.before, jobs.after);
+    match counterpart(new.plan(), site, group, old.plan(), old.rows()) {
+        Some((_its, index)) => same_pages(jobs, index, group),
         None => false,
     }
 }
 
 /// Returns whether an old group has the two pages of a new one.
-fn same_pages(
-    before: &Inputs<'_>,
-    after: &Inputs<'_>,
-    classes: &Classes,
-    index: usize,
-    group: &Group,
-) -> bool
-    requires classes { AreClasses before.now.files after.now.files classes.now }
-    requires index { index < length (groups_of before.now.plan) }
-    requires group { IsOfPlan after.now.plan group.now }
-    ensures { IsTrue result ↔ SamePages before.now (group_at before.now.plan index) after.now group.now }
+fn same_pages(jobs: &Compared<'_>, index: usize, group: &Group) -> bool
+    requires classes { AreCompared jobs.now }
+    requires index { index < length (groups_of jobs.now.before.now.plan) }
+    requires group { IsOfPlan jobs.now.after.now.plan group.now }
+    ensures { IsTrue result ↔ SamePages jobs.now.before.now (group_at jobs.now.before.now.plan index)
+        jobs.now.after.now group.now }
 {
-    let old = group_with(before, index);
-    is_same(before, old.left, after, group.left, classes)
-        && is_same(before, old.right, after, group.right, classes)
+    let old = group_with(jobs.before, index);
+    is_same(jobs, old.left, group.left) && is_same(jobs, old.right, group.right)
 }
 
 /// Returns whether an old page is the same as a new one.
-fn is_same(
-    before: &Inputs<'_>,
-    old: usize,
-    after: &Inputs<'_>,
-    new: usize,
-    classes: &Classes,
-) -> bool
-    requires classes { AreClasses before.now.files after.now.files classes.now }
-    requires old { old < length before.now.plan.pages }
-    requires new { new < length after.now.plan.pages }
-    ensures { IsTrue result ↔ (page_recipe before.now.plan before.now.files old
-        ≡ page_recipe after.now.plan after.now.files new) }
+fn is_same(jobs: &Compared<'_>, old: usize, new: usize) -> bool
+    requires classes { AreCompared jobs.now }
+    requires old { old < length jobs.now.before.now.plan.pages }
+    requires new { new < length jobs.now.after.now.plan.pages }
+    ensures { IsTrue result ↔ (page_recipe jobs.now.before.now.plan jobs.now.before.now.files old
+        ≡ page_recipe jobs.now.after.now.plan jobs.now.after.now.files new) }
 {
-    same_page(page_at(before, old), page_at(after, new), classes)
+    same_page(
+        page_at(jobs.before, old),
+        page_at(jobs.after, new),
+        jobs.classes,
+    )
 }
 
 /// Returns a page of a job's plan.

@@ -1,14 +1,15 @@
 // A site of a delivery.
 ghost use Rattle.std.specs.Prelude.{◌≡◌, ◌-◌, false, true, OnErr, OnOk};
 ghost use Rattle.pr_rack.specs.Told.{told};
-ghost use Rattle.replate.specs.Making.{IsBeforeRow, IsUp, Made, SomeServed, Stopped, passed};
+ghost use Rattle.site_agent.proofs.Drawing.{Keeps};
+ghost use Rattle.replate.specs.Making.{Asks, IsBeforeRow, IsUp, Made, SomeServed, Stopped, passed};
 ghost use Rattle.replate.specs.Making.{has_left as has_left_lem, is_making as is_making_lem};
 ghost use Rattle.replate.specs.Making.{keeps_next as keeps_next_lem};
 
 use crate::RemadeEnd;
 use pr_base::{Deal, NoMemory};
 use pr_rack::Rack;
-use ring_lanes::Deck;
+use ring_lanes::{Deck, Held};
 use site_agent::{Kept, LeftCause, Site};
 
 /// A site of a delivery, and its end unless a call of its rack fails.
@@ -71,6 +72,14 @@ impl Maker {
     }
 }
 
+/// Passes a row to a site, which keeps it if it is one of a plate that the site has left to make.
+fn keep<R: Rack>(site: &mut Site, held: &Held, rack: &mut R) -> Kept
+    requires { Asks site.old held.now (told R.Rack rack.old).tells }
+    ensures { Keeps site.old site.new held.now (told R.Rack rack.old) (told R.Rack rack.new) result }
+{
+    site.keep(held, rack)
+}
+
 /// Passes the row that was put last to a site, which keeps it and gives it back, unless the site has left.
 #[tactic(auto, using(crate::proofs::MakerLemmas::left_stays))]
 pub(crate) fn hand<D: Deal, R: Rack>(
@@ -92,7 +101,7 @@ pub(crate) fn hand<D: Deal, R: Rack>(
         return Ok(());
     }
     let held = deck.take();
-    let kept = maker.site.keep(&held, rack);
+    let kept = keep(&mut maker.site, &held, rack);
     deck.give(held);
     match kept {
         Kept::Done => Ok(()),

@@ -3,3 +3,4 @@ pub mod Printed
 pub mod Remade
 pub mod Sites
 pub mod Unmade
+mod SmallJobs

@@ -39,25 +39,25 @@ use Rattle.press_job.specs.Rows.{plate_bit, plate_row, plate_rows, row_at_place}
 use Rattle.replate.specs.Inputs.{JobData}
 use Rattle.replate.specs.Picks.{recipe_at}
 use Rattle.replate.specs.Plates.{IsPlateOf, PlateAt, group_at}
-use Rattle.replate.specs.Recipe.{LayerRecipe, PageRecipe, Recipe, ScreenRecipe, Settings, Bayer, Diffuse, Own, file_at, layer_recipe, page_recipe, recipe_of, screen_recipe, settings_of}
+use Rattle.replate.specs.Recipe.{LayerRecipe, PageRecipe, Recipe, ScreenRecipe, Bayer, Diffuse, Own, file_at, layer_recipe, page_recipe, recipe_of, screen_recipe, settings_of}
 use Rattle.replate_law.specs.Law.{bytes_of_plate}
 
 -- ---- layers
 
 abbrev art_by : LayerRecipe → Art
 art_by layer =
-    if layer.line then Line (bilevel_of usage.Line layer.image) layer.ink
+    if layer.rest.line then Line (bilevel_of usage.Line layer.image) layer.rest.ink
     else Contone (record { shape = shape_told (contone_shape layer.image); bytes = layer.image })
 
 abbrev layer_by : LayerRecipe → Layer
 layer_by layer = record {
   art = art_by layer;
   mask = option_map (bilevel_of usage.Mask) layer.mask;
-  x = layer.x;
-  y = layer.y;
-  scale = layer.scale;
-  crop = crop_of (shape_of (art_by layer)) layer.crop;
-  overprint = layer.overprint;
+  x = layer.rest.x;
+  y = layer.rest.y;
+  scale = layer.rest.scale;
+  crop = crop_of (shape_of (art_by layer)) layer.rest.crop;
+  overprint = layer.rest.overprint;
 }
 
 mask_is : (files : List (List ℕ)) (mask : Option ℕ) → option_map (λ m. bilevel_of usage.Mask (bytes_at files m)) mask ≡ option_map (bilevel_of usage.Mask) (option_map (file_at files) mask)
@@ -73,16 +73,16 @@ layers_are files (layer ∷ layers) = let one = layer_is files layer in let rest
 
 -- ---- values
 
-abbrev toned_by : Settings → Bool → Bool → List ℕ → Ink → ℕ
+abbrev toned_by : PlanData → Bool → Bool → List ℕ → Ink → ℕ
 toned_by s colour spot inks ink =
     if prints_ink colour spot ink then curve_value (slice_index_or s.curves (slot_of ink) []) (slice_index inks (slot_of ink)) else 0
 
-abbrev limited_by : Settings → Bool → Bool → List ℕ → List ℕ
+abbrev limited_by : PlanData → Bool → Bool → List ℕ → List ℕ
 limited_by s colour spot inks =
     let value = toned_by s colour spot inks in
     limited (value C) (value M) (value Y) (value K) s.limit
 
-abbrev printed_by : Settings → Bool → Bool → List ℕ → Ink → ℕ
+abbrev printed_by : PlanData → Bool → Bool → List ℕ → Ink → ℕ
 printed_by s colour spot inks C = slice_index (limited_by s colour spot inks) 0
 printed_by s colour spot inks M = slice_index (limited_by s colour spot inks) 1
 printed_by s colour spot inks Y = slice_index (limited_by s colour spot inks) 2
@@ -96,7 +96,7 @@ printed_is plan colour spot inks Y = refl
 printed_is plan colour spot inks K = refl
 printed_is plan colour spot inks S = refl
 
-abbrev value_by : Settings → PageRecipe → Ink → ℕ → ℕ → ℕ
+abbrev value_by : PlanData → PageRecipe → Ink → ℕ → ℕ → ℕ
 value_by s page ink x y = printed_by s page.colour page.spot (ink_at (map layer_by page.layers) x y) ink
 
 value_is : (plan : PlanData) (files : List (List ℕ)) (page : ℕ) (ink : Ink) (x y : ℕ)
@@ -106,7 +106,7 @@ value_is plan files page ink x y =
     ap (λ layers. printed_ink plan (page_colour plan page) (page_spot plan page) (ink_at layers x y) ink) (layers_are files (planned_layers plan page))
     ∙ printed_is plan (page_colour plan page) (page_spot plan page) (ink_at (map layer_by (map (layer_recipe files) (planned_layers plan page))) x y) ink
 
-abbrev values_by : Settings → PageRecipe → Ink → List (List ℕ)
+abbrev values_by : PlanData → PageRecipe → Ink → List (List ℕ)
 values_by s page ink = map (λ y. map (λ x. value_by s page ink x y) (range_with_len 0 s.page_width)) (range_with_len 0 s.page_height)
 
 values_are : (plan : PlanData) (files : List (List ℕ)) (page : ℕ) (ink : Ink) → page_values plan files page ink ≡ values_by (settings_of plan) (page_recipe plan files page) ink
@@ -115,7 +115,7 @@ values_are plan files page ink = λ i. map (λ y. map (λ x. value_is plan files
 
 -- ---- bits
 
-abbrev bit_by : Settings → PageRecipe → Ink → ℕ → ℕ → ScreenRecipe → Bool
+abbrev bit_by : PlanData → PageRecipe → Ink → ℕ → ℕ → ScreenRecipe → Bool
 bit_by s page ink x y (Bayer side) = tile_bit (value_by s page ink x y) (threshold_at side x y)
 bit_by s page ink x y Diffuse = diffused_bit (values_by s page ink) x y
 bit_by s page ink x y (Own width height at) =
@@ -136,7 +136,7 @@ page_bit_is plan files page ink x y = bit_is plan files page ink x y (screen_of 
 
 -- ---- plates
 
-abbrev placed_by : Settings → ScreenRecipe → PageRecipe → ℕ → Ink → ℕ → ℕ → Bool
+abbrev placed_by : PlanData → ScreenRecipe → PageRecipe → ℕ → Ink → ℕ → ℕ → Bool
 placed_by s screen page left_x ink x y =
     let top_y = slice_index s.margins 1 in
     (in_span left_x (left_x + s.page_width) x && in_span top_y (top_y + s.page_height) y) && bit_by s page ink (x - left_x) (y - top_y) screen

@@ -1,7 +1,5 @@
-use Rattle.std.proofs.Common.{◌≡◌, length, map, refl, rules}
-use Rattle.tif_packbits.specs.Frame.{framed_row}
+use Rattle.std.proofs.Common.{◌≡◌, length, refl, rules}
 use Rattle.pr_rack.specs.Told.{RackTells, told}
-use Rattle.replate.specs.Remade.{Making, by_picks}
 use Rattle.site_agent.proofs.Racks.{all_keep, front_idle}
 use Rattle.site_agent.proofs.Results.{if_err, if_ok}
 use Rattle.replate.proofs.DeliveryLemmas.{fits_wide, part_wide}
@@ -17,18 +15,16 @@ pub returns-clause-fits : goal.returns-clause-fits
 returns-clause-fits g c =
     let tell : g.row.R.Denot → RackTells = told g.R.Rack in
     let count : length c.split_at_mut-racks.result.0.now ≡ length c.args.after.now.plan.sites = search rules in
-    let making : Making = by_picks c.args.after.now.plan (map framed_row (g.D.Deal.rows c.args.deal.now)) c.args.out.now c.args.picks.now in
     if_ok c.make_plates.result _ _
-    (λ ends fits. fits_wide tell making c.args.racks.now _ c.split_at_mut-racks.result.0.now c.make_plates.new.racks c.split_at_mut-racks.result.1.now ends.items (search rules) refl count c.make_plates.auto.racks fits)
+    (λ ends fits. fits_wide tell _ c.args.racks.now _ c.split_at_mut-racks.result.0.now c.make_plates.new.racks c.split_at_mut-racks.result.1.now ends.items (search rules) refl count c.make_plates.auto.racks fits)
     c.make_plates.ensures.fits
 
 pub returns-clause-part : goal.returns-clause-part
 returns-clause-part g c =
     let tell : g.row.R.Denot → RackTells = told g.R.Rack in
     let count : length c.split_at_mut-racks.result.0.now ≡ length c.args.after.now.plan.sites = search rules in
-    let making : Making = by_picks c.args.after.now.plan (map framed_row (g.D.Deal.rows c.args.deal.now)) c.args.out.now c.args.picks.now in
     if_err c.make_plates.result _ _
-    (λ part. part_wide tell making c.args.racks.now _ c.split_at_mut-racks.result.0.now c.make_plates.new.racks c.split_at_mut-racks.result.1.now (search rules) refl count c.make_plates.auto.racks part)
+    (λ part. part_wide tell _ c.args.racks.now _ c.split_at_mut-racks.result.0.now c.make_plates.new.racks c.split_at_mut-racks.result.1.now (search rules) refl count c.make_plates.auto.racks part)
     c.make_plates.ensures.part
 
 pub returns-clause-counts : goal.returns-clause-counts

@@ -1,11 +1,12 @@
-use Rattle.std.proofs.Common.{◌≡◌, ◌++◌, ◌∷◌, [], Bool, List, length, get_or, take, ap, ◌∙◌, arith}
+use Rattle.std.proofs.Common.{◌≡◌, ◌++◌, ◌∷◌, [], Bool, List, length, get_or, if◌then◌else◌, take, ap, ◌∙◌, arith}
 use Rattle.std.specs.Prelude.{filter}
+use Rattle.std.proofs.lemmas.List.Elements.{filter-append}
 use Rattle.pr_base.specs.declared.ink.Ink.{Ink}
 use Rattle.pr_base.specs.declared.ink.Ink.TheVariants.{C}
 use Rattle.plan_rows.specs.Inks.{inks_of}
 use Rattle.replate.specs.Picks.{is_dropped}
 use Rattle.replate.specs.Plates.{PlateAt, group_at, ink_plates}
-use Rattle.replate.proofs.ListLemmas.{filter_map_more}
+use Rattle.replate.proofs.ListLemmas.{one_more}
 use Rattle.replate.proofs.dropped.add_group.Goals as goal
 
 pub loop-ink-preserved : goal.loop-ink-preserved
@@ -21,6 +22,8 @@ loop-ink-preserved c =
     let seen : List PlateAt = old ++ filter test (ink_plates c.args.site c.args.index (take k inks)) in
     let long : length items ≡ length inks = ap length same in
     let low = c.loop-ink-test.true in
-    c.in_ok-add_plate.ensures ∙ ap (λ l. l ++ filter test (plate (get_or items k C) ∷ [])) c.loop-ink.invariant
+    let here : PlateAt = plate (get_or items k C) in
+    c.in_ok-add_dropped.ensures ∙ ap (λ b. c.loop-ink.plates.items ++ (if b then here ∷ [] else [])) c.is_dropped-dropped.ensures
+    ∙ ap (λ l. l ++ filter test (here ∷ [])) c.loop-ink.invariant
     ∙ ap (λ l. seen ++ filter test (plate (get_or l k C) ∷ [])) same
-    ∙ filter_map_more test plate old inks k C (omega arith)
+    ∙ one_more (filter test) (filter-append test) plate old inks k C (omega arith)

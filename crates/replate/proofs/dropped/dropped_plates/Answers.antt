@@ -2,10 +2,11 @@ use Rattle.std.proofs.Common.{◌≡◌, ◌≤◌, ◌<◌, ◌++◌, [], ℕ, 
 use Rattle.std.specs.Prelude.{filter}
 use Rattle.std.specs.List.{flat_map, range_with_len}
 use Rattle.std.proofs.lemmas.List.{take_all}
+use Rattle.std.proofs.lemmas.List.Elements.{filter-append}
 use Rattle.std.proofs.lemmas.List.FromFn.{length-range_with_len, get_or-range_with_len}
 use Rattle.replate.specs.Picks.{dropped_of, is_dropped}
 use Rattle.replate.specs.Plates.{PlateAt, all_plates, plates_of}
-use Rattle.replate.proofs.ListLemmas.{filter_more}
+use Rattle.replate.proofs.ListLemmas.{joined_more}
 use Rattle.replate.proofs.dropped.dropped_plates.Goals as goal
 
 pub loop-site-preserved : goal.loop-site-preserved
@@ -21,7 +22,7 @@ loop-site-preserved c =
     let within : site < count = omega arith in
     c.in_ok-add_site.ensures ∙ ap (λ l. l ++ filter test (plates_of plan site)) c.loop-site.invariant
     ∙ ap (λ s. seen ++ filter test (plates_of plan s)) (sym (get_or-range_with_len 0 count site 0 within ∙ zero-add site))
-    ∙ filter_more test (plates_of plan) [] sites site 0 (omega (arith, length-range_with_len 0 count))
+    ∙ joined_more (filter test) (filter-append test) (plates_of plan) [] sites site 0 (omega (arith, length-range_with_len 0 count))
 
 pub returns-clause-dropped : goal.returns-clause-dropped
 unfolding dropped_of all_plates

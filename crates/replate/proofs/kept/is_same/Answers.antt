@@ -4,11 +4,11 @@ use Rattle.replate.proofs.kept.is_same.Goals as goal
 
 pub returns : goal.returns
 returns c =
-    let before = c.args.before.now in
-    let after = c.args.after.now in
+    let before = c.args.jobs.now.before.now in
+    let after = c.args.jobs.now.after.now in
     let old = c.page_at in
     let new = c.page_at-2 in
-    let classes = c.args.classes.now in
+    let classes = c.args.jobs.now.classes.now in
     let is_old = page_is before.plan before.files c.args.old old.result.now c.requires.old old.ensures.page in
     let is_new = page_is after.plan after.files c.args.new new.result.now c.requires.new new.ensures.page in (
       λ same. is_old ∙ pages_tell before.files after.files classes old.result.now new.result.now c.requires.classes old.ensures.layers new.ensures.layers (c.same_page.ensures.0 same) ∙ sym is_new,

@@ -1,10 +1,11 @@
 use Rattle.std.proofs.Common.{◌≡◌, ◌++◌, ◌∷◌, [], Bool, List, length, get_or, map, take, ap, ◌∙◌, arith}
+use Rattle.std.proofs.lemmas.List.{map-append}
 use Rattle.pr_base.specs.declared.ink.Ink.{Ink}
 use Rattle.pr_base.specs.declared.ink.Ink.TheVariants.{C}
 use Rattle.plan_rows.specs.Inks.{inks_of}
 use Rattle.replate.specs.Plates.{PlateAt, group_at, ink_plates}
 use Rattle.replate.specs.Remade.{is_picked}
-use Rattle.replate.proofs.WantedLemmas.{map_map_more}
+use Rattle.replate.proofs.ListLemmas.{one_more}
 use Rattle.replate.proofs.wanted.add_group.Goals as goal
 
 pub loop-ink-preserved : goal.loop-ink-preserved
@@ -21,4 +22,4 @@ loop-ink-preserved c =
     let low = c.loop-ink-test.true in
     c.in_ok-add_plate.ensures ∙ ap (λ l. l ++ test (plate (get_or items k C)) ∷ []) c.loop-ink.invariant
     ∙ ap (λ l. seen ++ test (plate (get_or l k C)) ∷ []) same
-    ∙ map_map_more test plate old inks k C (omega arith)
+    ∙ one_more (map test) (map-append test) plate old inks k C (omega arith)

@@ -1,55 +1,33 @@
--- The definitions at small plans: a section of two pages with one layer each, at one site, and what changes
--- when one thing is changed.
+-- The definitions at small plans, made from that of press_job: a section of two pages with one layer each, at
+-- one site, and what changes when one thing is changed.
 use Rattle.std.proofs.Common.{◌≡◌, ℕ, false, List, [], ◌∷◌, None, refl}
 use Rattle.std.specs.Prelude.{codes}
 use Rattle.pr_base.specs.declared.ink.Ink.TheVariants.{K}
 use Rattle.plan_parts.specs.declared.printing.Screen.TheVariants as screens
-use Rattle.plan_parts.specs.Data.{LayerData, PageData, TileData}
+use Rattle.plan_parts.specs.Data.{PageData, TileData}
 use Rattle.plan_json.specs.Data.{PlanData}
 use Rattle.plan_pages.specs.Pages.{chosen_page}
 use Rattle.plan_rows.specs.Groups.{group_of, groups_of, pair_groups, section_groups, site_pages}
 use Rattle.plan_rows.specs.Paths.{path_of}
-use Rattle.replate.specs.Recipe.{LayerRecipe, PageRecipe, Recipe, page_recipe, recipe_of, Own}
+use Rattle.press_job.proofs.SmallJob.{layer, small}
+use Rattle.replate.specs.Recipe.{PageRecipe, Recipe, page_recipe, recipe_of, Own}
 use Rattle.replate.specs.Plates.{PlateAt, all_plates, has_path, path_below, plates_of}
 use Rattle.replate.specs.Picks.{dropped_of}
 
-abbrev layer : ℕ → LayerData
-layer file = record {
-  line = false;
-  file = file;
-  x = 1;
-  y = 0;
-  scale = 1;
-  crop = None;
-  mask = None;
-  overprint = false;
-  ink = 0 ∷ 0 ∷ 0 ∷ 255 ∷ 0 ∷ [];
-}
-
 abbrev page : List ℕ → ℕ → PageData
-page name file = record { name = name; colour = false; spot = false; layers = layer file ∷ [] }
+page name file = record { name = name; colour = false; spot = false; layers = record layer { file = file } ∷ [] }
 
 abbrev tile : List ℕ → List ℕ → TileData
 tile name at = record { name = name; width = 2; height = 1; at = at }
 
 abbrev plan : List ℕ → List ℕ → TileData → List PageData → List ℕ → PlanData
-plan edition site own pages section = record {
+plan edition site own pages section = record small {
   edition = edition;
-  dpi = 1200;
-  page_width = 8;
-  page_height = 2;
-  margins = 0 ∷ 0 ∷ 0 ∷ 0 ∷ [];
-  gutter = 0;
-  limit = 1020;
   tiles = own ∷ [];
   screens = screens.Bayer 8 ∷ screens.Bayer 8 ∷ screens.Bayer 8 ∷ screens.Own 0 ∷ screens.Bayer 8 ∷ [];
-  curves = [];
-  marks = [];
   pages = pages;
   sections = record { name = section; pages = 0 ∷ 1 ∷ [] } ∷ [];
-  zones = [];
   sites = record { name = site; zone = None } ∷ [];
-  files = [];
 }
 
 abbrev two : List PageData
@@ -58,34 +36,23 @@ two = page (codes "p") 0 ∷ page (codes "q") 1 ∷ []
 abbrev first : PlanData
 first = plan (codes "E1") (codes "OSLO") (tile (codes "dots") (9 ∷ 200 ∷ [])) two (codes "A")
 
-abbrev told : ℕ → LayerRecipe
-told byte = record {
-  line = false;
-  image = byte ∷ [];
-  x = 1;
-  y = 0;
-  scale = 1;
-  crop = None;
-  mask = None;
-  overprint = false;
-  ink = 0 ∷ 0 ∷ 0 ∷ 255 ∷ 0 ∷ [];
-}
-
 abbrev page_of : ℕ → PageRecipe
-page_of byte = record { colour = false; spot = false; layers = told byte ∷ [] }
+page_of byte = record {
+  colour = false;
+  spot = false;
+  layers = record { rest = layer; image = byte ∷ []; mask = None } ∷ [];
+}
 
 -- the recipe of the plate of the second page next to the first
 recipe : Recipe
 recipe = record {
-  settings = record {
-    dpi = 1200;
-    page_width = 8;
-    page_height = 2;
-    margins = 0 ∷ 0 ∷ 0 ∷ 0 ∷ [];
-    gutter = 0;
-    limit = 1020;
-    marks = [];
-    curves = [];
+  settings = record small {
+    edition = [];
+    screens = [];
+    pages = [];
+    sections = [];
+    sites = [];
+    files = [];
   };
   screen = Own 2 1 (9 ∷ 200 ∷ []);
   left = page_of 66;
