@@ -24,9 +24,9 @@ use Rattle.tif_make.specs.Image.{image_file}
 use Rattle.tif_make.specs.Made.{HasRows}
 use Rattle.tif_make.specs.Strips.{row_at}
 use Rattle.job_gen.specs.Images.{bilevel_form, contone_bytes, contone_form, contone_pixel, contone_row, contone_rows, line_bytes, line_form, line_marked, line_row, line_rows, mask_bytes, mask_form, mask_marked, mask_row, mask_rows, rows_of, sample}
-use Rattle.job_gen.specs.Made.{planar_number, shape_for}
 use Rattle.job_gen.specs.Numbers.{image_length, image_width, size_of}
 use Rattle.job_gen.specs.Passes.{ArePassing, IsBilevelFile, IsContoneFile, IsLineFile, IsMaskFile, contone_shape_of}
+use Rattle.job_gen.proofs.Made.{planar_number, shape_for}
 use Rattle.job_gen.proofs.MadeImage.{IsMakeable, bilevel-back, bilevel-row-back, contone-back, contone-row-back, file-within, order-of, photometric-of}
 use Rattle.job_gen.proofs.MadeStrips.{item-at, row-cut}
 use Rattle.job_gen.proofs.MadeTests.{IsBilevelKind, line_is_bilevel, mask_is_bilevel}

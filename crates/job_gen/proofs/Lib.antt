@@ -3,6 +3,7 @@ pub mod JobFiles
 pub mod JobImages
 pub mod JobPaths
 pub mod Listed
+pub mod Made
 pub mod MadeDirectory
 pub mod MadeFields
 pub mod MadeImage

@@ -15,8 +15,8 @@ use Rattle.tif_make.specs.Form.{IsForm, photometric_of, plane_row_bytes, planes_
 use Rattle.tif_make.specs.Image.{image_fields, image_file}
 use Rattle.tif_make.specs.Made.{HasRows}
 use Rattle.tif_make.specs.Strips.{begins, joined, row_at, strips}
+use Rattle.job_gen.proofs.Made.{planar_number, shape_for}
 use Rattle.tif_make.proofs.Bounds.{strips-twice}
-use Rattle.job_gen.specs.Made.{planar_number, shape_for}
 use Rattle.job_gen.proofs.MadeDirectory.{header-back}
 use Rattle.job_gen.proofs.MadeFields.{directory-found, first-within, front-length, looks, made_counts, made_places}
 use Rattle.job_gen.proofs.MadeStrips.{HasStrips, IsShapeOf, image-row-is, strips-pass}

@@ -24,7 +24,7 @@ use Rattle.tif_make.specs.declared.form.Planar.TheVariants.{Chunky, Separate}
 use Rattle.tif_make.specs.declared.form.Compression.{Compression}
 use Rattle.tif_make.specs.declared.form.Compression.TheVariants.{Uncompressed, PackBits}
 use Rattle.tif_make.specs.Form.{IsForm, bits_of, compression_of, photometric_of, plane_row_bytes, planes_of, samples_of}
-use Rattle.job_gen.specs.Made.{planar_number, shape_for}
+use Rattle.job_gen.proofs.Made.{planar_number, shape_for}
 use Rattle.job_gen.proofs.MadeFields.{Looks, planar_values}
 
 -- ---- one field

@@ -1,6 +1,5 @@
 pub mod Images
 pub mod Job
-pub mod Made
 pub mod Numbers
 pub mod Passes
 pub mod Plan

@@ -12,9 +12,14 @@ use Rattle.plan_rows.specs.declared.group.Group.{Group}
 use Rattle.plan_rows.specs.Inks.{inks_of, ink_count}
 use Rattle.plan_rows.specs.Groups.{groups_of}
 use Rattle.plan_rows.specs.Rows.{row_number}
-use Rattle.plan_rows.specs.Plates.{last_row, rows_held}
+use Rattle.plan_rows.specs.Plates.{PlateOf, last_row}
 use Rattle.plan_rows.proofs.RowLemmas.{ink_count-within}
 use Rattle.plan_rows.proofs.Places.{IsRowAt, row_unique}
+
+-- how many rows of a plate have a number below n
+abbrev pub rows_held : PlanData → ℕ → PlateOf → ℕ
+rows_held plan n plate =
+    count_by (λ y. nat_lt (row_number plate.0 y plate.1) n) (range_with_len 0 (plate_height plan))
 
 -- the number of a plate's next row is larger by the number of the group's inks
 pub next_row : (group : Group) (y : ℕ) (ink : Ink) → row_number group (y + 1) ink ≡ row_number group y ink + ink_count group

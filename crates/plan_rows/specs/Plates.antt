@@ -41,11 +41,6 @@ file_of plan rows out site plate =
 abbrev pub site_files : PlanData → List (List ℕ) → List ℕ → ℕ → List (List ℕ × List ℕ)
 site_files plan rows out site = map (file_of plan rows out site) (site_plates plan site)
 
--- how many rows of a plate have a number below n
-abbrev pub rows_held : PlanData → ℕ → PlateOf → ℕ
-rows_held plan n plate =
-    count_by (λ y. nat_lt (row_number plate.0 y plate.1) n) (range_with_len 0 (plate_height plan))
-
 -- how many plates of a site have all their rows numbered below n
 abbrev pub plates_done : PlanData → ℕ → ℕ → ℕ
 plates_done plan site n = count_by (λ plate. nat_lt (last_row plan plate) n) (site_plates plan site)

@@ -14,7 +14,16 @@ use Rattle.cmd_base.specs.Seen.{Seen, ShelfSeen, SinkSeen}
 use Rattle.cmd_base.specs.Task.{Answers}
 use Rattle.cmd_base.specs.Writes.{Writes}
 use Rattle.cmd_base.proofs.Grow.{second_front}
-use Rattle.plate_room.specs.Tasks.{IsShort, LengthsOf, makes_of, rules_of}
+use Rattle.plate_room.specs.Tasks.{IsShort, makes_of, rules_of}
+
+-- no file was counted as too long, unless it is what this result of a command reports
+abbrev pub LengthsOf : Command → ShelfSeen → Result ℕ Stop → Type 0
+LengthsOf (One file) shelf result = Lengths shelf result
+LengthsOf (Run edition) shelf result = Lengths shelf result
+LengthsOf (Keys edition keys) shelf result = Lengths shelf result
+LengthsOf (Drill number ring patience) shelf result = Lengths shelf result
+LengthsOf (Verify asked) shelf result = CheckLengths asked shelf result
+LengthsOf (Replate change) shelf result = Lengths shelf result
 
 -- a refusal with a line of its own
 tell_end : {R : Type 0} (g : Ghosts R) (seen : Seen R) (note : SinkSeen) (status : ℕ) (refusal : Refusal)

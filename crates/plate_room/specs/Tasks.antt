@@ -1,17 +1,16 @@
 -- All commands: the rules of each, what it produces, and what a call therefore satisfies.
-use Rattle.std.specs.Prelude.{◌≡◌, ℕ, ◌⊎◌, List, Option, Some, None, Result}
+use Rattle.std.specs.Prelude.{◌≡◌, ℕ, ◌⊎◌, List, Option, Some, None}
 use Rattle.pr_rack.specs.declared.rack.Rack.{Ghosts}
 use Rattle.cmd_base.specs.declared.refusal.Refusal.{Refusal}
 use Rattle.cmd_base.specs.declared.refusal.Refusal.TheVariants as refused
 use Rattle.plate_room.specs.Command.{Command, Drill, Keys, One, Replate, Run, Verify, command_of}
 use Rattle.cmd_replate.specs.Change.{change_makes, change_rules}
-use Rattle.cmd_verify.specs.Check.{Asked, CheckLengths, FindsLong, PrintsFound, check_rules}
+use Rattle.cmd_verify.specs.Check.{Asked, FindsLong, PrintsFound, check_rules}
 use Rattle.cmd_run.specs.Drill.{PrintsDrill, drill_rules}
 use Rattle.cmd_run.specs.Edition.{run_makes, run_rules}
 use Rattle.cmd_run.specs.Keys.{keys_makes}
 use Rattle.cmd_one.specs.OneFile.{PrintsPlate, one_rules}
-use Rattle.cmd_base.specs.declared.refusal.Stop.{Stop}
-use Rattle.cmd_base.specs.Loads.{AllLoaded, Lengths, NoneLong}
+use Rattle.cmd_base.specs.Loads.{AllLoaded, NoneLong}
 use Rattle.cmd_base.specs.Seen.{Files, IsUntouched, PutFailed, ShelfSeen, SinkSeen}
 use Rattle.cmd_base.specs.Task.{IsNothing, IsPart, Makes, PrintsFront, PrintsWhole, Rules, telling}
 
@@ -30,15 +29,6 @@ abbrev pub Meets : List (List ℕ) → ShelfSeen → Refusal → Type 0
 Meets words shelf refusal =
     ((command_of words ≡ None) × (refusal ≡ refused.Words) × IsUntouched shelf)
     ⊎ ((command : Command) × (command_of words ≡ Some command) × (rules_of command).Meets shelf refusal)
-
--- no file was counted as too long, unless it is what this result of a command reports
-abbrev pub LengthsOf : Command → ShelfSeen → Result ℕ Stop → Type 0
-LengthsOf (One file) shelf result = Lengths shelf result
-LengthsOf (Run edition) shelf result = Lengths shelf result
-LengthsOf (Keys edition keys) shelf result = Lengths shelf result
-LengthsOf (Drill number ring patience) shelf result = Lengths shelf result
-LengthsOf (Verify asked) shelf result = CheckLengths asked shelf result
-LengthsOf (Replate change) shelf result = Lengths shelf result
 
 -- no file was counted as too long, or the arguments verify plates, of which one is too long
 abbrev pub IsShort : List (List ℕ) → ShelfSeen → Type 0

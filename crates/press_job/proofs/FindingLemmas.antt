@@ -22,10 +22,16 @@ use Rattle.plan_json.specs.Data.{PlanData}
 use Rattle.plan_json.specs.Plan.{IsPlan}
 use Rattle.press_job.specs.declared.file_test.FileTest.{FileTest}
 use Rattle.press_job.specs.declared.findings.Findings.{Findings}
-use Rattle.press_job.specs.Findings.{AreRecorded, FilesData, HasLayer, HasRecords, HaveLayers, IsRecorded, found_of, with_found}
-use Rattle.press_job.specs.Layers.{planned_layers}
+use Rattle.press_job.specs.Findings.{FilesData, HasLayer, HasRecords, HaveLayers, IsRecorded, found_of, with_found}
+use Rattle.press_job.specs.Layers.{planned_layers, bytes_at}
 use Rattle.press_job.specs.Tested.{GoesOn, IsTested, PassesIn, fault_at_mention, has_passed, with_use}
 use Rattle.press_job.specs.Tests.{layer_fault, mention_fault, use_of}
+
+-- each of these first files of a plan has its records
+pub record AreRecorded (plan : PlanData) (files : FilesData) : Type 0 where
+  pub count : length files.found ≡ length files.bytes
+  pub each : (file : ℕ) (other : Findings) → file < length files.found
+      → HasRecords plan file (bytes_at files.bytes file) (slice_index_or files.found file other)
 
 -- ---- one use
 

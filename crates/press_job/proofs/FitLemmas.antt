@@ -27,10 +27,20 @@ use Rattle.plan_parts.specs.Parts as planned
 use Rattle.tif_image.specs.declared.usage.Usage.{Usage}
 use Rattle.tif_image.specs.declared.usage.Usage.TheVariants.{Bilevel}
 use Rattle.pr_base.specs.First.{first_some}
-use Rattle.press_job.specs.Fit.{ArePlanned, PassesTests}
+use Rattle.press_job.specs.Fit.{ArePlanned}
 use Rattle.press_job.specs.Layers.{art_in, art_of, bilevel_of, bytes_at, crop_of, layer_of, planned_layers, shape_told}
 use Rattle.press_job.specs.Tests.{crop_fault, fault_for, fault_of_file, fault_of_layers, fault_where, fit_fault, layer_fault, length_of, mask_fault, mention_fault, page_fault, page_fit_fault, use_of, width_of}
+use Rattle.tif_image.specs.declared.usage.BilevelUse.TheVariants.{Mask}
+use Rattle.pr_base.specs.Number.{IsWithin}
 use Rattle.press_job.proofs.FindingLemmas.{planned_each}
+
+-- a layer's image and mask pass the tests of their uses, and its crop and mask fit the image
+pub record PassesTests (files : List (List ℕ)) (layer : LayerData) : Type 0 where
+  pub image : fault_for (use_of layer) (bytes_at files layer.file) ≡ None
+  pub mask : ForSome layer.mask (λ mask. fault_for (Bilevel Mask) (bytes_at files mask) ≡ None)
+  pub fit : fit_fault files layer ≡ None
+  pub scale : IsWithin 1 64 layer.scale
+  pub crop : ForSome layer.crop IsCrop
 
 -- ---- if there is no result
 

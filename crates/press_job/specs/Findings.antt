@@ -38,12 +38,6 @@ pub record FilesData : Type 0 where
   pub bytes : List (List ℕ)
   pub found : List Findings
 
--- each of these first files of a plan has its records
-pub record AreRecorded (plan : PlanData) (files : FilesData) : Type 0 where
-  pub count : length files.found ≡ length files.bytes
-  pub each : (file : ℕ) (other : Findings) → file < length files.found
-      → HasRecords plan file (bytes_at files.bytes file) (slice_index_or files.found file other)
-
 -- the files have the record of this one for this use
 pub record HasFound (files : FilesData) (file : ℕ) (usage : Usage) : Type 0 where
   pub within : file < length files.found

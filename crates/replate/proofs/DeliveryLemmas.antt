@@ -30,14 +30,27 @@ use Rattle.site_agent.proofs.Runs.{finished-end}
 use Rattle.replate.specs.declared.maker.Maker.{Maker}
 use Rattle.replate.specs.declared.remade.RemadeEnd.{RemadeEnd}
 use Rattle.replate.specs.declared.remade.RemadeEnd.TheVariants.{Done, Left}
-use Rattle.replate.specs.Making.{AreServed, Carries, HaveParts, IsServed, ServedBy, UpBy, fresh_maker}
-use Rattle.replate.specs.Making.{is_making, making_by}
+use Rattle.replate.specs.Making.{Carries, IsServed, ServedBy, UpBy, fresh_maker}
+use Rattle.replate.specs.Making.{is_making, making_by, HasPart}
 use Rattle.replate.specs.Picks.{PicksData}
 use Rattle.replate.specs.Remade.{FitsEnd, FitsPart, Making, RemadeFits, RemadePart, by_picks, picked_bits}
 use Rattle.replate.proofs.DoneLemmas.{none_begun_at, stands_on}
 use Rattle.replate.proofs.MakerLemmas.{stands_at}
 use Rattle.replate.proofs.RowLemmas.{there_is}
 use Rattle.replate.proofs.WantedLemmas.{length-picked_bits}
+
+-- each site has handled the rows below row n, or has left
+pub record AreServed (making : Making) (n : ℕ) (before now : List RackTells) (makers : List Maker)
+    : Type 0 where
+  pub count : length makers ≡ length making.plan.sites
+  pub each : (site : ℕ) (old new : RackTells) (maker : Maker) → slice_get before site ≡ Some old
+      → slice_get now site ≡ Some new → slice_get makers site ≡ Some maker
+      → IsServed making site n old new maker
+
+-- each rack has at least a part of its files
+pub record HaveParts (making : Making) (before now : List RackTells) : Type 0 where
+  pub each : (site : ℕ) (old new : RackTells) → site < length making.plan.sites
+      → slice_get before site ≡ Some old → slice_get now site ≡ Some new → HasPart making site old new
 
 -- ---- racks
 

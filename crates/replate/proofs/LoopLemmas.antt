@@ -15,14 +15,14 @@ use Rattle.plan_json.specs.Plan.{IsPlan}
 use Rattle.site_agent.specs.Racks.{AllTellSlots, AreIdle, KeepCounts}
 use Rattle.replate.specs.declared.maker.Maker.{Maker}
 use Rattle.replate.specs.declared.remade.RemadeEnd.{RemadeEnd}
-use Rattle.replate.specs.Making.{AllMade, AllSomeServed, AllStopped, AreServed, Carries, HasPart, HaveParts}
+use Rattle.replate.specs.Making.{AllMade, AllSomeServed, AllStopped, Carries, HasPart}
 use Rattle.replate.specs.Making.{IsServed, IsUp, fresh_maker, fresh_makers, is_making}
 use Rattle.replate.specs.Picks.{PicksData}
 use Rattle.replate.specs.Remade.{AreRowsOf, FitsEnd, Making, RemadeFits, by_picks}
 use Rattle.replate.proofs.MakerLemmas.{served_part}
 use Rattle.replate.proofs.RowLemmas.{there_is}
 use Rattle.replate.proofs.DeliveryLemmas.{begins_at, end_fits, rack_at, row_is_left, served_at, tells_at}
-use Rattle.replate.proofs.DeliveryLemmas.{up_of}
+use Rattle.replate.proofs.DeliveryLemmas.{AreServed, HaveParts, up_of}
 
 -- ---- the start
 

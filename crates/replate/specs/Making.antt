@@ -165,19 +165,6 @@ AllStopped {R} tell frames n makers racks racks' = (i : ℕ) (maker : Maker) (ra
     → slice_get makers i ≡ Some maker → slice_get racks i ≡ Some rack → slice_get racks' i ≡ Some rack'
     → Stopped frames n (tell rack) (tell rack') maker
 
--- each site has handled the rows below row n, or has left
-pub record AreServed (making : Making) (n : ℕ) (before now : List RackTells) (makers : List Maker)
-    : Type 0 where
-  pub count : length makers ≡ length making.plan.sites
-  pub each : (site : ℕ) (old new : RackTells) (maker : Maker) → slice_get before site ≡ Some old
-      → slice_get now site ≡ Some new → slice_get makers site ≡ Some maker
-      → IsServed making site n old new maker
-
--- each rack has at least a part of its files
-pub record HaveParts (making : Making) (before now : List RackTells) : Type 0 where
-  pub each : (site : ℕ) (old new : RackTells) → site < length making.plan.sites
-      → slice_get before site ≡ Some old → slice_get now site ≡ Some new → HasPart making site old new
-
 -- ---- the first
 
 -- a site of a delivery before the first row

@@ -38,10 +38,25 @@ use Rattle.ring_run.specs.JobRun.{RunLeaves}
 use Rattle.ring_run.specs.Keyed.{AreFreshKeys, CountsFit, KeysFit, further_count}
 use Rattle.ring_run.specs.Round.{AreEndsOf, StaySeated}
 use Rattle.ring_run.specs.Seat.{SeatData, are_going, counts_at, counts_in, is_going, is_stopped}
-use Rattle.ring_run.specs.Served.{AreSeated, AreSomeSeated, AreStopped, Carries, GoesOnAt, IsCounting, IsSeated, IsServed, LeavesPart, Work, end_of, ends_in, fresh_seats, is_out, site_seat, site_seats}
+use Rattle.ring_run.specs.Served.{AreSomeSeated, Carries, GoesOnAt, IsCounting, IsSeated, IsServed, Work, end_of, ends_in, fresh_seats, is_out, site_seat, site_seats}
 use Rattle.ring_run.proofs.Keys.{counting_first, counts_fit}
 use Rattle.ring_run.proofs.Rounds.{mapped, none_at, none_going}
 use Rattle.ring_run.proofs.Serving.{finishes, going_part, total_is}
+
+-- each is seated so
+abbrev pub AreSeated : Work → List RackTells → List RackTells → List SeatData → Type 0
+AreSeated work before now seats = (i : ℕ) (seat : SeatData) → slice_get seats i ≡ Some seat
+    → IsSeated work i (slice_get before i) (slice_get now i) seat
+
+-- what a site leaves at any time is a part
+pub record LeavesPart (delivery : Delivery) (site : ℕ) (before now : RackTells) : Type 0 where
+  pub part : FitsPart delivery site before now
+  pub faults : before.faults ≤ now.faults
+
+-- each site leaves a part
+pub record AreStopped (delivery : Delivery) (before now : List RackTells) : Type 0 where
+  pub each : (site : ℕ) (old new : RackTells) → site < length delivery.plan.sites
+      → slice_get before site ≡ Some old → slice_get now site ≡ Some new → LeavesPart delivery site old new
 
 -- ---- the start
 

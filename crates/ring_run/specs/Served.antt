@@ -143,21 +143,6 @@ abbrev pub AreSomeSeated : List RackTells → List SeatData → Type 0
 AreSomeSeated now seats = (i : ℕ) (seat : SeatData) → slice_get seats i ≡ Some seat
     → SomeSeated (slice_get now i) seat
 
--- each is seated so
-abbrev pub AreSeated : Work → List RackTells → List RackTells → List SeatData → Type 0
-AreSeated work before now seats = (i : ℕ) (seat : SeatData) → slice_get seats i ≡ Some seat
-    → IsSeated work i (slice_get before i) (slice_get now i) seat
-
--- what a site leaves at any time is a part
-pub record LeavesPart (delivery : Delivery) (site : ℕ) (before now : RackTells) : Type 0 where
-  pub part : FitsPart delivery site before now
-  pub faults : before.faults ≤ now.faults
-
--- each site leaves a part
-pub record AreStopped (delivery : Delivery) (before now : List RackTells) : Type 0 where
-  pub each : (site : ℕ) (old new : RackTells) → site < length delivery.plan.sites
-      → slice_get before site ≡ Some old → slice_get now site ≡ Some new → LeavesPart delivery site old new
-
 -- ---- the first and the last
 
 -- the sites of a plan before the first row, at these ends

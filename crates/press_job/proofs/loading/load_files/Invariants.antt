@@ -1,5 +1,5 @@
 use Rattle.std.proofs.Common.{◌≡◌, ◌≤◌}
-use Rattle.press_job.specs.Findings.{AreRecorded}
+use Rattle.press_job.proofs.FindingLemmas.{AreRecorded}
 use Rattle.press_job.proofs.LoadLemmas.{AreLoaded}
 use Rattle.press_job.proofs.UntoldLemmas.{AreWithin}
 use Rattle.press_job.proofs.loading.load_files.Given as goal
