@@ -4,7 +4,8 @@ use Rattle.std.specs.Prelude.{Some, nat_lt, unwrap_or, is_some}
 use Rattle.std.proofs.lemmas.Bool.{and_from, lt-ltb}
 use Rattle.ring_core.specs.declared.event.Event.TheVariants.{Look, Fill, Publish, See, Open, Close, Advance, Leave}
 use Rattle.ring_core.specs.Schedule.{Schedule, readers, Progress, Lanes, progress_of, lanes_of}
-use Rattle.ring_core.specs.Events.{can_be, after, each_below, cursor_at, can_fill, is_ready, can_open, can_close, can_advance, can_leave, looked, saw, advanced, departed, filled_with, unfilled, opened, closed, settled}
+use Rattle.ring_core.specs.Events.{can_be, after, each_below, cursor_at, can_fill, is_ready, can_open, can_close, can_advance, can_leave}
+use Rattle.ring_core.proofs.Changes.{looked, saw, advanced, departed, filled_with, unfilled, opened, closed, settled}
 use Rattle.ring_core.specs.Sound.{IsSized}
 use Rattle.ring_core.specs.Plain.{read_closed}
 use Rattle.ring_core.proofs.Readers

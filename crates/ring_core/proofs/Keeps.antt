@@ -7,7 +7,8 @@ use Rattle.std.proofs.lemmas.List.{get_or_append_left, get_or_push}
 use Rattle.ring_core.specs.declared.event.Stage.{Stage}
 use Rattle.ring_core.specs.declared.event.Stage.TheVariants.{Idle, Holding, Closed}
 use Rattle.ring_core.specs.Schedule.{Progress, Lanes}
-use Rattle.ring_core.specs.Events.{is_idle, is_holding, is_closed, is_above, is_below, can_fill, is_ready, can_open, can_close, can_advance, can_leave, put_row, looked, saw, advanced, departed, filled_with, unfilled, opened, closed, settled}
+use Rattle.ring_core.specs.Events.{is_idle, is_holding, is_closed, is_above, is_below, can_fill, is_ready, can_open, can_close, can_advance, can_leave}
+use Rattle.ring_core.proofs.Changes.{put_row, looked, saw, advanced, departed, filled_with, unfilled, opened, closed, settled}
 use Rattle.ring_core.specs.Sound.{IsSoundProgress, IsSoundLanes}
 use Rattle.ring_core.proofs.Places.{apart, put_same, put_other, put_gives}
 

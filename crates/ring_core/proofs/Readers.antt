@@ -7,7 +7,8 @@ use Rattle.std.proofs.lemmas.List.{get_or-replicate, get_or-map}
 use Rattle.ring_core.specs.declared.event.Stage.TheVariants.{Idle, Holding, Closed}
 use Rattle.ring_core.specs.declared.event.Event.TheVariants.{Look, Fill, Publish, See, Open, Close, Advance, Leave}
 use Rattle.ring_core.specs.Schedule.{Schedule, readers, Progress, Lanes, progress_of, lanes_of, lane_place, start}
-use Rattle.ring_core.specs.Events.{after, cursor_at, put_row, looked, saw, advanced, departed, filled_with, unfilled, opened, closed, settled}
+use Rattle.ring_core.specs.Events.{after, cursor_at}
+use Rattle.ring_core.proofs.Changes.{put_row, looked, saw, advanced, departed, filled_with, unfilled, opened, closed, settled}
 use Rattle.ring_core.specs.Sound.{IsSized}
 use Rattle.ring_core.specs.Plain.{read_closed}
 use Rattle.ring_core.proofs.Places.{further, put_same, put_other}

@@ -7,7 +7,8 @@ use Rattle.ring_core.specs.declared.event.Stage.TheVariants.{Idle}
 use Rattle.ring_core.specs.declared.event.Event.{Event}
 use Rattle.ring_core.specs.declared.event.Event.TheVariants.{Look, Fill, Publish, See, Open, Close, Advance, Leave}
 use Rattle.ring_core.specs.Schedule.{Schedule, readers, Progress, Lanes, progress_of, lanes_of, start}
-use Rattle.ring_core.specs.Events.{each_below, can_fill, is_ready, can_open, can_close, can_advance, can_leave, can_be, after, step, run, cursor_at, is_below, is_idle, looked, saw, advanced, departed, filled_with, opened, closed, settled}
+use Rattle.ring_core.specs.Events.{each_below, can_fill, is_ready, can_open, can_close, can_advance, can_leave, can_be, after, step, run, cursor_at, is_below, is_idle}
+use Rattle.ring_core.proofs.Changes.{looked, saw, advanced, departed, filled_with, opened, closed, settled}
 use Rattle.ring_core.specs.Sound.{IsSized, IsSoundProgress, IsSoundLanes, IsSoundWords, IsSound}
 use Rattle.ring_core.specs.Laws.{WasClosed}
 use Rattle.ring_core.proofs.Places.{one_turn}

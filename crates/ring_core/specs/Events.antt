@@ -1,5 +1,5 @@
 -- The eight events: when each is possible, and what it changes.
-use Rattle.std.specs.Prelude.{ℕ, zero, suc, ◌+◌, ◌%◌, Bool, true, false, not, ◌&&◌, ◌||◌, nat_lt, nat_eq}
+use Rattle.std.specs.Prelude.{ℕ, zero, suc, ◌+◌, Bool, true, false, not, ◌&&◌, ◌||◌, nat_lt}
 use Rattle.std.specs.Prelude.{if◌then◌else◌, List, [], ◌∷◌, ◌++◌, map, Option, Some, None, is_some, is_none}
 use Rattle.std.specs.Prelude.{unwrap_or, option_map, slice_index_or, slice_set}
 use Rattle.ring_core.specs.declared.event.Stage.{Stage}
@@ -119,36 +119,3 @@ step s e = if can_be s e then after s e else s
 abbrev pub run : Schedule → List Event → Schedule
 run s [] = s
 run s (e ∷ es) = run (step s e) es
-
--- The same changes, in one reader's part.
-
--- the row at each row's place, once v is stored at the place of row n
-abbrev pub put_row : ℕ → ℕ → Option ℕ → (ℕ → Option ℕ) → ℕ → Option ℕ
-put_row places n v row k = if nat_eq (k % places) (n % places) then v else row k
-
-abbrev pub looked : Progress → Progress
-looked p = record p { known = p.cursor }
-
-abbrev pub saw : ℕ → Progress → Progress
-saw head p = record p { seen = head }
-
-abbrev pub advanced : ℕ → Progress → Progress
-advanced c p = record p { cursor = Some (c + 1); taken = p.taken ++ c ∷ [] }
-
-abbrev pub departed : Progress → Progress
-departed p = record p { cursor = None }
-
-abbrev pub filled_with : ℕ → ℕ → Lanes → Lanes
-filled_with places head l = record l { filled = true; row = put_row places head (Some head) l.row }
-
-abbrev pub unfilled : Lanes → Lanes
-unfilled l = record l { filled = false }
-
-abbrev pub opened : ℕ → ℕ → Lanes → Lanes
-opened places c l = record l { stage = Holding; row = put_row places c None l.row }
-
-abbrev pub closed : ℕ → ℕ → Lanes → Lanes
-closed places c l = record l { stage = Closed; row = put_row places c (Some c) l.row }
-
-abbrev pub settled : Lanes → Lanes
-settled l = record l { stage = Idle }

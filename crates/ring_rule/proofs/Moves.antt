@@ -5,7 +5,7 @@ use Rattle.std.proofs.Common.{◌≡◌, ◌≢◌, ℕ, ◌+◌, ◌<◌, ◌�
 use Rattle.std.specs.Prelude.{Some, None}
 use Rattle.std.proofs.lemmas.Bool.{cases_eq}
 use Rattle.ring_core.specs.Schedule.{Progress}
-use Rattle.ring_core.specs.Events.{looked, saw, advanced, departed}
+use Rattle.ring_core.proofs.Changes.{looked, saw, advanced, departed}
 use Rattle.ring_core.specs.Sound.{IsSoundProgress}
 use Rattle.ring_core.proofs.Keeps.{look_progress, see_progress, publish_progress, advance_progress, leave_progress}
 use Rattle.ring_core.proofs.Whole.{each_by}

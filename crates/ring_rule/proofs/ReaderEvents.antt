@@ -7,7 +7,8 @@ use lib.ListN.{get_elem?}
 use Rattle.atomic_table.specs.Table.{keeps, gives, stepped}
 use Rattle.ring_core.specs.declared.event.Event.TheVariants.{See, Open, Close, Advance, Leave}
 use Rattle.ring_core.specs.Schedule.{Progress, Lanes, lane_place}
-use Rattle.ring_core.specs.Events.{after, can_open, can_close, can_advance, can_leave, advanced, departed, opened, closed, settled}
+use Rattle.ring_core.specs.Events.{after, can_open, can_close, can_advance, can_leave}
+use Rattle.ring_core.proofs.Changes.{advanced, departed, opened, closed, settled}
 use Rattle.ring_core.specs.Plain.{from_low, plain_lanes, read_closed}
 use Rattle.ring_core.proofs.Lower.{unsettled, from_low_is}
 use Rattle.ring_core.proofs.Made.{IsMade}

@@ -6,7 +6,8 @@ use Rattle.std.proofs.lemmas.Bool.{cases_eq, eq-eqb, ne_eqb, lt-ltb}
 use mathlib.Core.Option.{Option as AtHome, none, some}
 use Rattle.ring_core.specs.declared.event.Stage.TheVariants.{Idle, Holding}
 use Rattle.ring_core.specs.Schedule.{Progress, lane_place}
-use Rattle.ring_core.specs.Events.{is_below, is_idle, is_holding, can_open, can_close, can_advance, can_leave, advanced, departed, opened, closed, settled}
+use Rattle.ring_core.specs.Events.{is_below, is_idle, is_holding, can_open, can_close, can_advance, can_leave}
+use Rattle.ring_core.proofs.Changes.{advanced, departed, opened, closed, settled}
 use Rattle.ring_core.specs.Sound.{IsSoundProgress, IsSoundLanes}
 use Rattle.ring_core.specs.Plain.{from_low, plain_lanes}
 use Rattle.ring_core.proofs.Keeps.{see_lanes, open_lanes, close_lanes, advance_lanes, advance_progress, leave_lanes, leave_progress}

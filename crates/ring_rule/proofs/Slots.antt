@@ -7,7 +7,7 @@ use lib.ListN.{get_elem?}
 use Rattle.std.proofs.Math.Nat.{mod-mod}
 use Rattle.ring_core.specs.declared.event.Stage.TheVariants.{Idle, Holding}
 use Rattle.ring_core.specs.Schedule.{lane_place}
-use Rattle.ring_core.specs.Events.{put_row}
+use Rattle.ring_core.proofs.Changes.{put_row}
 use Rattle.ring_core.specs.Plain.{plain_stage, from_low, first_row}
 use Rattle.ring_core.proofs.Readers.{lanes_apart}
 use Rattle.ring_core.proofs.Places.{put_same, put_other}

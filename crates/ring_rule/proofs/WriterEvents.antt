@@ -7,7 +7,8 @@ use lib.ListN.{get_elem?}
 use Rattle.atomic_table.specs.Table.{keeps, gives, stepped}
 use Rattle.ring_core.specs.declared.event.Event.TheVariants.{Look, Fill, Publish}
 use Rattle.ring_core.specs.Schedule.{lane_place}
-use Rattle.ring_core.specs.Events.{is_ready, unfilled, after}
+use Rattle.ring_core.specs.Events.{is_ready, after}
+use Rattle.ring_core.proofs.Changes.{unfilled}
 use Rattle.ring_core.proofs.Keeps.{ready_room}
 use Rattle.ring_core.proofs.After
 use Rattle.ring_rule.specs.declared.lane.Lane.{Lane}

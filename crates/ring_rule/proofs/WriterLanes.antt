@@ -6,7 +6,8 @@ use Rattle.std.proofs.lemmas.List.{length-map}
 use Rattle.std.proofs.Math.ListN as ListN
 use mathlib.Core.Option.{none, some}
 use Rattle.ring_core.specs.Schedule.{lane_place}
-use Rattle.ring_core.specs.Events.{can_fill, is_ready, is_above, put_row, filled_with, unfilled}
+use Rattle.ring_core.specs.Events.{can_fill, is_ready, is_above}
+use Rattle.ring_core.proofs.Changes.{put_row, filled_with, unfilled}
 use Rattle.ring_core.specs.Sound.{IsSoundProgress, IsSoundLanes}
 use Rattle.ring_core.specs.Plain.{plain_lanes}
 use Rattle.ring_core.proofs.Keeps.{look_lanes, publish_lanes, fill_lanes}
