@@ -6,7 +6,6 @@ ghost use Rattle.plate_bytes.specs.Made.{so_far};
 ghost use Rattle.tif_strips.specs.Strips.{row_length};
 ghost use Rattle.cmd_one.specs.One.{black_plate, black_rows};
 ghost use Rattle.cmd_one.specs.OneFile.{PlateWrites, Printed};
-ghost use Rattle.cmd_one.specs.declared.plate.PlateFault.TheVariants.{Memory};
 ghost use Rattle.cmd_one.specs.Room.{FitsRow};
 ghost use Rattle.cmd_base.specs.Seen.{sink_seen};
 
@@ -34,14 +33,6 @@ pub(crate) enum PlateFault {
     Printing,
 }
 
-impl From<NoMemory> for PlateFault {
-    ghost from_gives = { λ _ fault. fault ≡ Memory };
-
-    fn from(_error: NoMemory) -> PlateFault {
-        PlateFault::Memory
-    }
-}
-
 /// Checks an image and prints its black plate. Prints nothing of an image that is refused, and nothing before
 /// the whole plate is made.
 pub(crate) fn print_plate<S: Sink>(
@@ -56,7 +47,9 @@ pub(crate) fn print_plate<S: Sink>(
         Ok(image) => image,
         Err(fault) => return Err(PlateFault::Refused(fault)),
     };
-    let plate = make_plate(alloc, &image)?;
+    let Ok(plate) = make_plate(alloc, &image) else {
+        return Err(PlateFault::Memory);
+    };
     match out.put(plate.bytes()) {
         Ok(()) => Ok(()),
         Err(SinkFault::Failed) => Err(PlateFault::Printing),
