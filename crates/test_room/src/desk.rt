@@ -1,13 +1,13 @@
 // A shelf of plans, images and plates, some with other bytes than their own.
 ghost use Rattle.std.specs.Prelude.{None};
 
-use crate::files::{FORM, SAMPLES};
 use crate::plans::{SmallPlan, plan_text};
-use crate::plates::{Plate, plate_of};
+use crate::plates::Plate;
 use pr_base::{NoMemory, raised};
 use pr_ports::{LoadFault, Shelf};
 use std::alloc::Global;
 use tif_make::make_image;
+use worked_files::{FORM, SAMPLES, plate_of};
 
 /// What is at a path.
 #[derive(Clone, Copy)]

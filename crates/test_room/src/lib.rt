@@ -3,13 +3,12 @@
 #![tactic(auto)]
 
 mod desk;
-mod files;
 mod plans;
 mod plates;
 mod room;
 
 pub use desk::{Desk, File, Held};
-pub use files::{FORM, PLATE, SAMPLES};
 pub use plans::{FOUR_PAGES, SmallPlan, TWO_PAGES, ZONED, plan_text};
-pub use plates::{Plate, Sides, are_empty, has_plates, have_plates, plate_of, took, took_rows};
+pub use plates::{Plate, are_empty, has_plates, have_plates, took, took_rows};
 pub use room::{CALM, Ended, Failing, RACKS, prints, racks, racks_after, tells};
+pub use worked_files::{FORM, PLATE, SAMPLES, Sides};

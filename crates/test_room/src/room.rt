@@ -87,24 +87,7 @@ fn texts(alloc: Global, words: &[&str]) -> Result<Vec<String>, NoMemory> {
     Ok(texts)
 }
 
-/// Runs a command with these arguments, and returns its status.
-fn command<T: Threads + Clock + Sync, H: Shelf, R: Rack + Send, S: Sink, E: Sink>(
-    rt: &T,
-    alloc: Global,
-    words: &[&str],
-    shelf: &mut H,
-    racks: &mut [R],
-    out: &mut S,
-    note: &mut E,
-) -> Result<u8, NoMemory>
-    requires racks { 16 ≤ length racks.old }
-    requires idle { AreIdle R.Rack racks.old }
-{
-    let words = texts(alloc, words)?;
-    Ok(answer(rt, alloc, words.as_slice(), shelf, racks, out, note))
-}
-
-/// Does the same with arguments that are texts. Callers see only the status.
+/// Runs a command with these arguments, and returns its status. Callers see nothing else.
 fn answer<T: Threads + Clock + Sync, H: Shelf, R: Rack + Send, S: Sink, E: Sink>(
     rt: &T,
     alloc: Global,
@@ -135,8 +118,9 @@ pub fn tells<T: Threads + Clock + Sync, H: Shelf, R: Rack + Send, S: Sink>(
     requires racks { 16 ≤ length racks.old }
     requires idle { AreIdle R.Rack racks.old }
 {
+    let words = texts(alloc, words)?;
     let mut note = sink(alloc, failing)?;
-    let status = command(rt, alloc, words, shelf, racks, out, &mut note)?;
+    let status = answer(rt, alloc, words.as_slice(), shelf, racks, out, &mut note);
     Ok(status == ended.status && note.bytes() == ended.line.as_bytes())
 }
 
