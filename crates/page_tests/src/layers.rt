@@ -7,17 +7,14 @@ use page_layers::{Art, Crop, InkRow, Layer, PageInks, PageRows};
 use pr_base::Ink;
 use std::process::Abort;
 use tif_image::{Bilevel, BilevelUse, Contone};
-use tif_make::{Compression, ImageForm, Kind, Order, Planar, make_image};
+use tif_make::{ImageForm, Kind, make_image};
+use worked_files::FORM;
 
 // The form of the two image files: 4 by 2 pixels, in one strip.
-const FORM: ImageForm = ImageForm {
-    kind: Kind::Contone,
-    width: 4,
+const TWO_ROWS: ImageForm = ImageForm {
     length: 2,
-    order: Order::Little,
-    planar: Planar::Chunky,
-    compression: Compression::Uncompressed,
     rows_per_strip: 2,
+    ..FORM
 };
 
 // Makes a file of four inks: sample i of the pixel in column x of row y is 10 y + x + 40 i + 1.
@@ -26,14 +23,14 @@ fn contone<R: Abort + AllocGlobal>(rt: &R) -> Vec<u8> {
         1, 41, 81, 121, 2, 42, 82, 122, 3, 43, 83, 123, 4, 44, 84, 124, //
         11, 51, 91, 131, 12, 52, 92, 132, 13, 53, 93, 133, 14, 54, 94, 134, //
     ];
-    make_image(rt.alloc(), &FORM, &rows).expect(rt, "memory")
+    make_image(rt.alloc(), &TWO_ROWS, &rows).expect(rt, "memory")
 }
 
 // Makes a file of one bit a pixel, in which the pixels 0 and 2 of row 0 and 1 to 3 of row 1 are marked.
 fn bilevel<R: Abort + AllocGlobal>(rt: &R) -> Vec<u8> {
     let form = ImageForm {
         kind: Kind::Line,
-        ..FORM
+        ..TWO_ROWS
     };
     make_image(rt.alloc(), &form, &[0xA0, 0x70]).expect(rt, "memory")
 }
@@ -191,11 +188,23 @@ fn used_page<'a, R: Abort + AllocGlobal>(
     ensures room { layers ≤ result.room }
 {
     let mut page = PageRows::open(rt.alloc(), layers.max(1), width, height).expect(rt, "memory");
-    assert_layer(rt, &before);
-    page.put(before);
+    draw(rt, before, &mut page, room);
+    page
+}
+
+/// Draws the first row of a page with this layer alone. Leaves the page unchanged, without layers.
+pub fn draw<'a>(rt: &impl Abort, layer: Layer<'a>, page: &mut PageRows<'a>, room: &mut InkRow)
+    requires none { page.old.layers ≡ [] }
+    requires place { 0 < page.old.room }
+    requires top { (page.old.next ≡ 0) × (0 < page.old.height) }
+    requires width { HasWidth room.old page.old.width }
+    ensures page { page.new ≡ page.old }
+    ensures width { HasWidth room.new page.old.width }
+{
+    assert_layer(rt, &layer);
+    page.put(layer);
     page.next(room);
     page.clear();
-    page
 }
 
 // Adds layers to a page that has none.
@@ -322,13 +331,13 @@ fn mask<'a, R: Abort>(rt: &R, line: &'a [u8], masked: bool) -> Option<Bilevel<'a
     Some(linework(rt, line, BilevelUse::Mask))
 }
 
-/// Opens an image of one bit a pixel.
-pub fn linework<'a, R: Abort>(rt: &R, file: &'a [u8], usage: BilevelUse) -> Bilevel<'a> {
+// Opens an image of one bit a pixel.
+fn linework<'a, R: Abort>(rt: &R, file: &'a [u8], usage: BilevelUse) -> Bilevel<'a> {
     Bilevel::check(file, usage).expect(rt, "no image")
 }
 
 // Asserts that a page accepts this layer.
-pub fn assert_layer(rt: &impl Abort, layer: &Layer<'_>)
+fn assert_layer(rt: &impl Abort, layer: &Layer<'_>)
     ensures { IsLayer layer.now }
 {
     let (width, length) = sides(&layer.art);

@@ -4,6 +4,8 @@
 #[cfg(test)]
 mod blocks;
 #[cfg(test)]
+mod columns;
+#[cfg(test)]
 mod diffusion;
 #[cfg(test)]
 mod layers;

@@ -1,14 +1,14 @@
 // Masked linework from each first column and in each width around a block of 64 pixels, compared with a plain
 // loop.
-ghost use Rattle.std.specs.Prelude.{◌≡◌, ◌<◌, [], length};
-ghost use Rattle.page_layers.specs.Inks.{HasWidth};
+ghost use Rattle.std.specs.Prelude.{◌≡◌, ◌<◌, length};
 
-use crate::layers::{assert_layer, linework};
-use page_layers::{Art, Crop, InkRow, Layer, PageRows};
+use crate::columns::{Columns, assert_columns};
+use page_layers::{Art, Crop, InkRow, Layer};
 use pr_base::Ink;
 use std::process::Abort;
-use tif_image::BilevelUse;
-use tif_make::{Compression, ImageForm, Kind, Order, Planar, make_image};
+use tif_image::{Bilevel, BilevelUse};
+use tif_make::{ImageForm, Kind, make_image};
+use worked_files::FORM;
 
 // A row of 200 pixels whose ones are marked.
 const LINE: [u8; 25] = [
@@ -28,11 +28,7 @@ fn file<R: Abort + AllocGlobal>(rt: &R, row: &[u8]) -> Vec<u8>
     let form = ImageForm {
         kind: Kind::Line,
         width: 200,
-        length: 1,
-        order: Order::Little,
-        planar: Planar::Chunky,
-        compression: Compression::Uncompressed,
-        rows_per_strip: 1,
+        ..FORM
     };
     make_image(rt.alloc(), &form, row).expect(rt, "memory")
 }
@@ -50,65 +46,60 @@ fn rows_begin_and_end_at_any_column(rt: HostRuntime) {
     let line = file(&rt, &LINE);
     let mut mask = file(&rt, &MASK);
     mark_zeros(&rt, &mut mask);
+    let row = Marked {
+        line: &line,
+        mask: &mask,
+    };
     for width in 1..131 {
-        assert_columns(&rt, &line, &mask, width);
+        assert_columns(&rt, &row, width);
     }
 }
 
-// Asserts pages of this width one after the other, in the same buffers.
-fn assert_columns<R: Abort + AllocGlobal>(rt: &R, line: &[u8], mask: &[u8], width: u32) {
-    assert!(rt; width >= 1 && width <= 130);
-    let mut page = PageRows::open(rt.alloc(), 1, width, 1).expect(rt, "memory");
-    let mut room = InkRow::new(rt.alloc(), width).expect(rt, "memory");
-    for first in 0..64 {
-        assert_row(rt, line, mask, first, width, &mut page, &mut room);
-    }
-}
-
-// Leaves the page unchanged, without layers.
-fn assert_row<'a>(
-    rt: &impl Abort,
+// The row, black where the line is marked and the mask is too.
+#[derive(Drop)]
+struct Marked<'a> {
     line: &'a [u8],
     mask: &'a [u8],
-    first: u32,
-    width: u32,
-    page: &mut PageRows<'a>,
-    room: &mut InkRow,
-)
-    requires none { page.old.layers ≡ [] }
-    requires place { 0 < page.old.room }
-    requires top { (page.old.next ≡ 0) × (0 < page.old.height) }
-    requires width { HasWidth room.old page.old.width }
-    ensures page { page.new ≡ page.old }
-    ensures width { HasWidth room.new page.old.width }
-{
-    let layer = Layer {
-        art: Art::Line(linework(rt, line, BilevelUse::Line), [0, 0, 0, 255, 0]),
-        mask: Some(linework(rt, mask, BilevelUse::Mask)),
-        x: 0,
-        y: 0,
-        scale: 1,
-        crop: Crop {
-            x: first,
-            y: 0,
-            width,
-            height: 1,
-        },
-        overprint: false,
-    };
-    assert_layer(rt, &layer);
-    page.put(layer);
-    page.next(room);
-    page.clear();
-    assert_marks(rt, room.plane(Ink::K), first as usize);
 }
 
-fn assert_marks(rt: &impl Abort, values: &[u8], first: usize) {
-    assert!(rt; first < 64 && values.len() <= 130);
+impl<'a> Columns<'a> for Marked<'a> {
+    fn layer(&self, first: u32, width: u32) -> Option<Layer<'a>> {
+        Some(Layer {
+            art: Art::Line(
+                Bilevel::check(self.line, BilevelUse::Line).ok()?,
+                [0, 0, 0, 255, 0],
+            ),
+            mask: Some(Bilevel::check(self.mask, BilevelUse::Mask).ok()?),
+            x: 0,
+            y: 0,
+            scale: 1,
+            crop: Crop {
+                x: first,
+                y: 0,
+                width,
+                height: 1,
+            },
+            overprint: false,
+        })
+    }
+
+    fn is_shown(&self, room: &InkRow, first: u32, _width: u32) -> bool {
+        are_marked(room.plane(Ink::K), first as usize)
+    }
+}
+
+// Whether these values show the row from column `first` on.
+fn are_marked(values: &[u8], first: usize) -> bool {
+    if first >= 64 || values.len() > 130 {
+        return false;
+    }
     for x in 0..values.len() {
         let marked = bit(&LINE, first + x) && !bit(&MASK, first + x);
-        assert!(rt; values[x] == if marked { 255 } else { 0 });
+        if values[x] != if marked { 255 } else { 0 } {
+            return false;
+        }
     }
+    true
 }
 
 fn bit(row: &[u8; 25], x: usize) -> bool

@@ -5,6 +5,28 @@ use page_layers::Crop;
 
 const NONE: [u8; 4] = [0; 4];
 
+// Returns a row of the photograph whose cyan has these samples: each further ink has 40 more where it is
+// painted.
+fn photo<const W: usize>(cyan: [u8; W]) -> [[u8; W]; 5] {
+    [
+        cyan,
+        more(cyan, 40),
+        more(cyan, 80),
+        more(cyan, 120),
+        [0; W],
+    ]
+}
+
+fn more<const W: usize>(cyan: [u8; W], by: u8) -> [u8; W] {
+    let mut row = cyan;
+    for sample in row.iter_mut() {
+        if *sample != 0 {
+            *sample = sample.wrapping_add(by);
+        }
+    }
+    row
+}
+
 #[test]
 fn overprint_keeps_inks_and_knockout_replaces_them(rt: HostRuntime) {
     let cyan = whole(Shown::Line([100, 0, 0, 0, 7]));
@@ -25,19 +47,8 @@ fn edges_cut_layers(rt: HostRuntime) {
     // The last three are wholly outside the page.
     let places = [(2, 1), (4, 0), (0, 2), (4_000_000_000, 4_000_000_000)];
     let layers = places.map(|(x, y)| Laid { x, y, ..image });
-    let row = [
-        [0, 0, 1, 2],
-        [0, 0, 41, 42],
-        [0, 0, 81, 82],
-        [0, 0, 121, 122],
-        NONE,
-    ];
-    assert_page(
-        &rt,
-        &layers,
-        2,
-        &[&[(false, Some([NONE; 5])), (false, Some(row))]],
-    )
+    let rows = [(false, Some([NONE; 5])), (false, Some(photo([0, 0, 1, 2])))];
+    assert_page(&rt, &layers, 2, &[&rows]);
 }
 
 #[test]
@@ -52,26 +63,10 @@ fn masks_go_with_the_image(rt: HostRuntime) {
         },
         ..whole(Shown::Contone)
     };
-    let first = [
-        [0, 3, 0, 0],
-        [0, 43, 0, 0],
-        [0, 83, 0, 0],
-        [0, 123, 0, 0],
-        NONE,
-    ];
-    let second = [
-        [12, 13, 14, 0],
-        [52, 53, 54, 0],
-        [92, 93, 94, 0],
-        [132, 133, 134, 0],
-        NONE,
-    ];
-    assert_page(
-        &rt,
-        &[layer],
-        2,
-        &[&[(false, Some(first)), (false, Some(second))]],
-    );
+    let first = photo([0, 3, 0, 0]);
+    let second = photo([12, 13, 14, 0]);
+    let rows = [(false, Some(first)), (false, Some(second))];
+    assert_page(&rt, &[layer], 2, &[&rows]);
 }
 
 #[test]
@@ -83,13 +78,8 @@ fn contone_takes_the_spot_ink_away(rt: HostRuntime) {
             overprint,
             ..whole(Shown::Contone)
         };
-        let row = [
-            [0, 0, 1, 2],
-            [0, 0, 41, 42],
-            [0, 0, 81, 82],
-            [0, 0, 121, 122],
-            left,
-        ];
+        let mut row = photo([0, 0, 1, 2]);
+        row[4] = left;
         assert_page(&rt, &[spot, image], 1, &[&[(false, Some(row))]]);
     }
 }
@@ -115,13 +105,7 @@ fn crop_shows_three_times_at_an_odd_place(rt: HostRuntime) {
         ..whole(Shown::Contone)
     };
     let none = Some([[0; 8]; 5]);
-    let row = Some([
-        [0, 12, 12, 12, 13, 13, 13, 0],
-        [0, 52, 52, 52, 53, 53, 53, 0],
-        [0, 92, 92, 92, 93, 93, 93, 0],
-        [0, 132, 132, 132, 133, 133, 133, 0],
-        [0; 8],
-    ]);
+    let row = Some(photo([0, 12, 12, 12, 13, 13, 13, 0]));
     let rows = [
         (false, none),
         (false, row),
@@ -132,19 +116,11 @@ fn crop_shows_three_times_at_an_odd_place(rt: HostRuntime) {
     assert_page(&rt, &[layer], 5, &[&rows]);
 }
 
-const FIRST: Option<[[u8; 1]; 5]> = Some([[1], [41], [81], [121], [0]]);
-
-const SECOND: Option<[[u8; 1]; 5]> = Some([[11], [51], [91], [131], [0]]);
-
 #[test]
 fn rows_at_scale_1_do_not_repeat(rt: HostRuntime) {
-    let rows = [(false, FIRST), (false, SECOND)];
-    assert_page(
-        &rt,
-        &[whole(Shown::Contone)],
-        2,
-        &[&[(false, FIRST)], &rows, &rows],
-    );
+    let first = (false, Some(photo([1])));
+    let rows = [first, (false, Some(photo([11])))];
+    assert_page(&rt, &[whole(Shown::Contone)], 2, &[&[first], &rows, &rows]);
 }
 
 #[test]
@@ -153,13 +129,14 @@ fn rows_at_scale_4_repeat_and_are_passed(rt: HostRuntime) {
         scale: 4,
         ..whole(Shown::Contone)
     };
+    let first = Some(photo([1]));
     let rows: [Row<1>; 6] = [
-        (false, FIRST),
+        (false, first),
         (true, None),
         (true, None),
-        (true, FIRST),
-        (false, SECOND),
+        (true, first),
+        (false, Some(photo([11]))),
         (true, None),
     ];
-    assert_page(&rt, &[layer], 8, &[&rows, &[(false, FIRST)]]);
+    assert_page(&rt, &[layer], 8, &[&rows, &[(false, first)]]);
 }

@@ -1,16 +1,14 @@
 // A row of four inks from each first column, at each left edge and in each width around a block of 64, at the
 // scales that are vectorized and at others, compared with a plain loop.
-ghost use Rattle.std.specs.Prelude.{◌≡◌, ◌<◌, [], IfOk, length};
-ghost use Rattle.page_layers.specs.Inks.{HasWidth};
+ghost use Rattle.std.specs.Prelude.{◌≡◌, length};
 
-use crate::layers::assert_layer;
-use page_layers::{Art, Crop, InkRow, Layer, PageRows};
-use pr_base::{Ink, NoMemory};
-use std::alloc::Global;
+use crate::columns::{Columns, assert_columns};
+use page_layers::{Art, Crop, InkRow, Layer};
+use pr_base::Ink;
 use std::process::Abort;
-use std::test::Fail;
 use tif_image::Contone;
-use tif_make::{Compression, ImageForm, Kind, Order, Planar, make_image};
+use tif_make::{Compression, ImageForm, Planar, make_image};
+use worked_files::FORM;
 
 // The width of the row in pixels.
 const PIXELS: u32 = 260;
@@ -28,148 +26,116 @@ fn noise() -> [u8; 1040] {
     row
 }
 
-fn file(
-    alloc: Global,
+fn file<R: Abort + AllocGlobal>(
+    rt: &R,
     row: &[u8],
     planar: Planar,
     compression: Compression,
-) -> Result<Vec<u8>, NoMemory>
+) -> Vec<u8>
     requires { length row.now ≡ 1040 }
 {
     let form = ImageForm {
-        kind: Kind::Contone,
         width: PIXELS,
-        length: 1,
-        order: Order::Little,
         planar,
         compression,
-        rows_per_strip: 1,
+        ..FORM
     };
-    make_image(alloc, &form, row)
+    make_image(rt.alloc(), &form, row).expect(rt, "memory")
 }
 
 #[test]
-fn samples_begin_and_end_at_any_column(rt: HostRuntime) -> Result<(), Fail> {
+fn samples_begin_and_end_at_any_column(rt: HostRuntime) {
     let row = noise();
-    let chunky = file(rt.alloc(), &row, Planar::Chunky, Compression::Uncompressed)?;
-    for scale in [1, 2, 3, 4, 63, 64] {
-        assert_widths(&rt, &chunky, &row, scale)?;
-    }
-    let apart = file(rt.alloc(), &row, Planar::Separate, Compression::PackBits)?;
-    for scale in [1, 2] {
-        assert_widths(&rt, &apart, &row, scale)?;
-    }
-    Ok(())
+    let chunky = file(&rt, &row, Planar::Chunky, Compression::Uncompressed);
+    assert_scales(&rt, &chunky, &row, &[1, 2, 3, 4, 63, 64]);
+    let apart = file(&rt, &row, Planar::Separate, Compression::PackBits);
+    assert_scales(&rt, &apart, &row, &[1, 2]);
 }
 
-fn assert_widths<R: Abort + AllocGlobal>(
-    rt: &R,
-    file: &[u8],
-    row: &[u8; 1040],
-    scale: u32,
-) -> Result<(), Fail> {
+fn assert_scales<R: Abort + AllocGlobal>(rt: &R, file: &[u8], row: &[u8; 1040], scales: &[u32]) {
+    for scale in scales {
+        let scale = *scale;
+        assert_widths(rt, &Scaled { file, row, scale });
+    }
+}
+
+fn assert_widths<R: Abort + AllocGlobal>(rt: &R, row: &Scaled<'_>) {
     for width in 64..194 {
-        assert_columns(rt, file, row, scale, width)?;
+        assert_columns(rt, row, width);
     }
-    Ok(())
 }
 
-// Asserts pages of this width one after the other, in the same buffers.
-fn assert_columns<R: Abort + AllocGlobal>(
-    rt: &R,
-    file: &[u8],
-    row: &[u8; 1040],
-    scale: u32,
-    width: u32,
-) -> Result<(), Fail> {
-    assert!(rt; width >= 1 && width <= 200);
-    let mut page = PageRows::open(rt.alloc(), 1, width, 1)?;
-    let mut room = InkRow::new(rt.alloc(), width)?;
-    for first in 0..64 {
-        let x = (5 * first + width) % 64;
-        assert_row(rt, file, row, scale, first, x, &mut page, &mut room)?;
-    }
-    Ok(())
-}
-
-// Leaves the page unchanged, without layers.
-fn assert_row<'a>(
-    rt: &impl Abort,
+// The row of four inks at a scale, from a left edge that depends on the first column and on the width.
+#[derive(Drop)]
+struct Scaled<'a> {
     file: &'a [u8],
-    row: &[u8; 1040],
+    row: &'a [u8; 1040],
     scale: u32,
-    first: u32,
-    x: u32,
-    page: &mut PageRows<'a>,
-    room: &mut InkRow,
-) -> Result<(), Fail>
-    requires none { page.old.layers ≡ [] }
-    requires place { 0 < page.old.room }
-    requires top { (page.old.next ≡ 0) × (0 < page.old.height) }
-    requires width { HasWidth room.old page.old.width }
-    ensures page { IfOk result (λ done. page.new ≡ page.old) }
-    ensures width { IfOk result (λ done. HasWidth room.new page.old.width) }
-{
-    assert!(rt; first < PIXELS);
-    let layer = Layer {
-        art: Art::Contone(Contone::check(file)?),
-        mask: None,
-        x,
-        y: 0,
-        scale,
-        crop: Crop {
-            x: first,
-            y: 0,
-            width: PIXELS - first,
-            height: 1,
-        },
-        overprint: false,
-    };
-    assert_layer(rt, &layer);
-    page.put(layer);
-    page.next(room);
-    page.clear();
-    assert_inks(rt, room, row, scale, first, x);
-    Ok(())
 }
 
-fn assert_inks(rt: &impl Abort, room: &InkRow, row: &[u8; 1040], scale: u32, first: u32, x: u32) {
-    for (slot, ink) in INKS.iter().enumerate() {
-        let values = room.plane(*ink);
-        assert_samples(
-            rt,
-            values,
-            row,
-            slot,
-            scale as usize,
-            first as usize,
-            x as usize,
-        );
+// Returns the left edge.
+fn left_of(first: u32, width: u32) -> u32 {
+    first.wrapping_mul(5).wrapping_add(width) % 64
+}
+
+impl<'a> Columns<'a> for Scaled<'a> {
+    fn layer(&self, first: u32, width: u32) -> Option<Layer<'a>> {
+        Some(Layer {
+            art: Art::Contone(Contone::check(self.file).ok()?),
+            mask: None,
+            x: left_of(first, width),
+            y: 0,
+            scale: self.scale,
+            crop: Crop {
+                x: first,
+                y: 0,
+                width: PIXELS.saturating_sub(first),
+                height: 1,
+            },
+            overprint: false,
+        })
+    }
+
+    fn is_shown(&self, room: &InkRow, first: u32, width: u32) -> bool {
+        let (scale, left) = (self.scale as usize, left_of(first, width) as usize);
+        for (slot, ink) in INKS.iter().enumerate() {
+            if !are_samples(
+                room.plane(*ink),
+                self.row,
+                slot,
+                scale,
+                first as usize,
+                left,
+            ) {
+                return false;
+            }
+        }
+        true
     }
 }
 
-fn assert_samples(
-    rt: &impl Abort,
+// Whether these values show the row from column `first` on: 0 left of the edge, and behind it the samples at
+// this place of each pixel.
+fn are_samples(
     values: &[u8],
     row: &[u8; 1040],
     slot: usize,
     scale: usize,
     first: usize,
     left: usize,
-) {
-    assert!(rt; scale > 0 && first < 64 && left < 64 && slot < 4);
-    assert!(rt; values.len() < 200);
+) -> bool {
+    if scale == 0 || first >= 64 || left >= 64 || slot >= 4 || values.len() >= 200 {
+        return false;
+    }
     for x in 0..values.len() {
         let expected = if x < left {
-            0
+            Some(&0)
         } else {
-            sample(rt, row, 4 * (first + (x - left) / scale) + slot)
+            row.get(4 * (first + (x - left) / scale) + slot)
         };
-        assert!(rt; values[x] == expected);
+        if expected != Some(&values[x]) {
+            return false;
+        }
     }
-}
-
-fn sample(rt: &impl Abort, row: &[u8; 1040], place: usize) -> u8 {
-    assert!(rt; place < 1040);
-    row[place]
+    true
 }

@@ -1,6 +1,6 @@
 use Rattle.std.proofs.Common.{◌≡◌, [], ◌<◌}
 use Rattle.page_layers.specs.Inks.{HasWidth}
-use Rattle.page_tests.proofs.samples.assert_columns.Given as goal
+use Rattle.page_tests.proofs.columns.assert_columns.Given as goal
 
 abbrev pub invariant-loop-first : goal.invariant-loop-first
 invariant-loop-first g l = record {
