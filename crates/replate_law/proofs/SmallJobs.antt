@@ -10,7 +10,7 @@ use Rattle.plan_pages.specs.Pages.{chosen_page}
 use Rattle.plan_rows.specs.Groups.{group_of, groups_of, pair_groups, section_groups, site_pages}
 use Rattle.plan_rows.specs.Paths.{path_of}
 use Rattle.press_job.proofs.SmallJob.{layer, small}
-use Rattle.replate.specs.Recipe.{PageRecipe, Recipe, page_recipe, recipe_of, Own}
+use Rattle.replate.specs.Recipe.{PageRecipe, Recipe, page_recipe, recipe_of, settings_of, Own}
 use Rattle.replate.specs.Plates.{PlateAt, all_plates, has_path, path_below, plates_of}
 use Rattle.replate.specs.Picks.{dropped_of}
 
@@ -46,14 +46,7 @@ page_of byte = record {
 -- the recipe of the plate of the second page next to the first
 recipe : Recipe
 recipe = record {
-  settings = record small {
-    edition = [];
-    screens = [];
-    pages = [];
-    sections = [];
-    sites = [];
-    files = [];
-  };
+  settings = settings_of small;
   screen = Own 2 1 (9 ∷ 200 ∷ []);
   left = page_of 66;
   right = page_of 65;
