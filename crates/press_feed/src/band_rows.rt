@@ -56,10 +56,9 @@ fn next_group(job: &Job, wanted: Wanted<'_>, group: usize) -> Option<usize>
     requires { group < length (groups_of job.now.plan) }
     ensures { ForSome result (λ next. next < length (groups_of job.now.plan)) }
 {
-    let rows = job.rows();
-    for index in group + 1..rows.group_count() {
-        if rows
-            .group(index)
+    let groups = job.rows().groups();
+    for index in group + 1..groups.len() {
+        if groups[index]
             .inks()
             .iter()
             .any(|ink| wanted.has(index, *ink))
