@@ -9,6 +9,10 @@ processors, at most two gigabytes of memory each). The test works on the committ
 FOLDER, which is kept, so that a second test finds the libraries proved; otherwise in a temporary folder,
 which gets the libraries that this repository built.
 
+A function is proved from the contracts of what it calls, whatever their bodies are. So those wrong bodies of a
+crate that change different functions are tried together, in one check: each is refused if the check says so of
+the function that it changes. One of which nothing is said there is tried alone, by `rt must-fail`.
+
 It prints a line for each wrong body: where it was refused. "Refused at a clause" means a clause of the
 function that it changes, or the condition of a call that this function makes. The others are listed in a
 table at the end.
@@ -51,19 +55,106 @@ def function_at(path, line):
     return ""
 
 
-def changed_functions(edit, crate_folder):
-    """The functions of src/ whose text a wrong body changes; "" means a constant, which any function may read."""
-    found, path = set(), ""
+def parts_of(edit):
+    """The changes of a wrong body: of each the file, the old text and the new one."""
+    parts, path, before = [], "", ""
     with open(edit, encoding="utf-8") as file:
         for line in file.read().split("\n"):
             if line.startswith("file: "):
                 path = line.removeprefix("file: ").strip()
-            elif line.startswith("old: ") and path.startswith("src/"):
-                source = os.path.join(crate_folder, path)
-                with open(source, encoding="utf-8") as text:
-                    before = text.read().partition(line.removeprefix("old: "))[0]
-                found.add(function_at(source, before.count("\n") + 1))
+            elif line.startswith("old: "):
+                before = line.removeprefix("old: ")
+            elif line.startswith("new:"):
+                parts.append((path, before, line.removeprefix("new:").removeprefix(" ")))
+    return parts
+
+
+def text_of(path):
+    with open(path, encoding="utf-8") as file:
+        return file.read()
+
+
+def changed_functions(edit, crate_folder):
+    """The functions of src/ whose text a wrong body changes; "" means a constant, which any function may read."""
+    found = set()
+    for path, old, _ in parts_of(edit):
+        if path.startswith("src/"):
+            source = os.path.join(crate_folder, path)
+            found.add(function_at(source, text_of(source).partition(old)[0].count("\n") + 1))
     return found
+
+
+def function_span(text, line):
+    """The lines from the function at or before this line to the next one, or none if there is no function."""
+    lines = text.split("\n")
+    heads = [number for number, each in enumerate(lines, 1) if FUNCTION.match(each)] + [len(lines) + 1]
+    begun = [number for number in heads[:-1] if number <= line]
+    return (begun[-1], heads[len(begun)]) if begun else None
+
+
+def is_of_function(text, old):
+    """Whether an old text stands in a function, and is neither a constant's nor a use's."""
+    return old in text and not re.match(r"(pub )?(const|static|use|type) ", old) \
+        and function_span(text, text.partition(old)[0].count("\n") + 1) is not None
+
+
+def changed_spans(parts, texts):
+    """Of each change, its file and the lines of its function in these texts."""
+    return {(path, function_span(texts[path], texts[path].partition(new)[0].count("\n") + 1))
+            for path, _, new in parts}
+
+
+def together(crate, folder):
+    """Groups of the crate's wrong bodies, each of which changes functions that no other one of its group changes."""
+    left, groups = wrong_bodies(crate), []
+    while left:
+        group, used, texts = [], set(), {}
+        for name in list(left):
+            parts = parts_of(os.path.join(TOP, BODIES, crate, f"{name}.edit"))
+            plain = {path: text_of(os.path.join(folder, path)) for path, _, _ in parts}
+            if not all(path.startswith("src/") and is_of_function(plain[path], old) for path, old, _ in parts):
+                left.remove(name)
+                continue
+            functions = {(path, function_span(plain[path], plain[path].partition(old)[0].count("\n") + 1))
+                         for path, old, _ in parts}
+            if functions & used:
+                continue
+            now = {path: texts.get(path, plain[path]) for path in plain}
+            for path, old, new in parts:
+                if now[path].count(old) != 1:
+                    break
+                now[path] = now[path].replace(old, new)
+            else:
+                texts.update(now)
+                used |= functions
+                group.append(name)
+        groups.append((group, texts))
+        left = [name for name in left if name not in group]
+        if not group:
+            break
+    return [group for group in groups if len(group[0]) > 1]
+
+
+def tried_together(clone, crate):
+    """What a check says of each wrong body at a function that it changes, of those that are tried together."""
+    folder, said = os.path.join(clone, "crates", crate), {}
+    for names, texts in together(crate, folder):
+        plain = {path: text_of(os.path.join(folder, path)) for path in texts}
+        for path, text in texts.items():
+            with open(os.path.join(folder, path), "w", encoding="utf-8") as file:
+                file.write(text)
+        ran = subprocess.run(["rt", "check", crate], cwd=clone, capture_output=True, text=True)
+        for path, text in plain.items():
+            with open(os.path.join(folder, path), "w", encoding="utf-8") as file:
+                file.write(text)
+        notes = [line for line in (ran.stdout + ran.stderr).split("\n") if "is not proved" in line and PLACE.search(line)]
+        for name in names if ran.returncode else ():
+            spans = changed_spans(parts_of(os.path.join(TOP, BODIES, crate, f"{name}.edit")), texts)
+            for note in notes:
+                place = PLACE.search(note)
+                if any(path == place[1] and span[0] <= int(place[2]) < span[1] for path, span in spans):
+                    said.setdefault(name, note)
+    return said
 
 
 def refused_at(said, crate_folder):
@@ -91,12 +182,17 @@ def run_crate(clone, crate):
     """Tries the wrong bodies of one crate and returns, of each by name: whether it was refused, and what was said."""
     must_fail = os.path.join(clone, "crates", crate, "must-fail")
     shutil.rmtree(must_fail, ignore_errors=True)
-    shutil.copytree(os.path.join(TOP, BODIES, crate), must_fail)
+    answers = {name: (True, f"refused, as it must be: {said}") for name, said in tried_together(clone, crate).items()}
+    alone = [name for name in wrong_bodies(crate) if name not in answers]
+    if not alone:
+        return answers
+    os.mkdir(must_fail)
+    for name in alone:
+        shutil.copy(os.path.join(TOP, BODIES, crate, f"{name}.edit"), must_fail)
     ran = subprocess.run(["rt", "must-fail", crate], cwd=clone, capture_output=True, text=True)
     said = dict(ANSWERED.findall(ran.stdout))
     missing = f"not tried: {(ran.stderr.strip() or ran.stdout.strip() or 'nothing was said').splitlines()[-1]}"
-    answers = {}
-    for name in wrong_bodies(crate):
+    for name in alone:
         text = said.get(name, missing)
         answers[name] = text.startswith("refused, as it must be"), text
     return answers
