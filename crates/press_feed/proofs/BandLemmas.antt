@@ -1,13 +1,14 @@
 -- Frames made one after the other, and consecutive shares.
-use Rattle.std.proofs.Common.{inl, inr, ◌≡◌, ℕ, ◌+◌, ◌-◌, ◌*◌, ◌/◌, ◌%◌, ◌<◌, ◌≤◌, List, length, set, get_or, sym, ◌∙◌, subst, arith}
-use Rattle.std.specs.Prelude.{Some, slice_get}
+use Rattle.std.proofs.Common.{inl, inr, ◌≡◌, ℕ, ◌+◌, ◌-◌, ◌*◌, ◌/◌, ◌%◌, ◌<◌, ◌≤◌, List, [], ◌∷◌, ◌++◌, length, set, get_or, sym, subst, arith}
+use Rattle.std.specs.Prelude.{All, Some, slice_get}
 use Rattle.std.proofs.Math.Nat.{mul-le-mul_right}
 use Rattle.std.proofs.lemmas.Bool.{cases_lt}
 use Rattle.std.proofs.lemmas.Grind.{get_or-set_at}
 use Rattle.std.proofs.lemmas.List.{get_or-set_other}
+use Rattle.std.proofs.lemmas.List.Elements.{All-append, All-cons, All-nil}
 use Rattle.std.proofs.lemmas.Nat.{div-add-mod'}
 use Rattle.std.proofs.lemmas.Option.{get_or_from_slice_get, slice_get_within}
-use Rattle.press_feed.specs.Band.{AreMade, FrameData, HoldsFrom, IsBand, IsFrameAt, IsShareOf, ShareData}
+use Rattle.press_feed.specs.Band.{FrameData, HoldsFrom, IsBand, IsFrameAt, IsShareOf, ShareData}
 use Rattle.press_job.specs.Job.{JobData}
 
 -- ---- the frames of a share
@@ -29,6 +30,10 @@ made_more job first i frames frame within own is = record {
 }
 
 -- ---- the shares of a band
+
+-- one more, of which holds what holds of all so far
+pub pushed_all : {X : Type 0} (P : X → Type 0) (old new : List X) (x : X) → new ≡ old ++ x ∷ [] → All P old → P x → All P new
+pushed_all P old new x is all own = subst {A = List X} (All P) (sym is) (All-append P old (x ∷ []) all (All-cons P x [] own (All-nil P)))
 
 -- an index below the total is in one of the shares
 share_within : (at each count : ℕ) → 0 < each → at < count * each → at / each < count
@@ -62,20 +67,3 @@ band_share job each first end n shares share is low high share_is =
     let within = is.within in
     let below : (n - first) / each < length shares = share_within (n - first) each (length shares) is.some (omega arith) in
     subst {A = ShareData} (IsShareOf job each) (sym share_is) (is.own ((n - first) / each) share below)
-
--- a band after its shares were made
-pub IsBand-make : (job : JobData) (each first end from : ℕ) (old new : List ShareData) → IsBand job each first end old → length new ≡ length old → AreMade from each old new
-    → IsBand job each from (from + length new * each) new
-IsBand-make job each first end from old new is long made =
-    let same : (k : ℕ) (d : ShareData) → k < length new → (get_or old k d).job ≡ job = λ k d less. (is.own k d (omega (arith, long, less))).job_is in
-    record {
-      some = is.some;
-      few = is.few;
-      most = (let most = is.most in omega arith);
-      own = λ k d less.
-          (let share = made.same k d (omega (arith, long, less)) in
-          record { job_is = share.job_is ∙ same k d less; count_is = share.count_is });
-      within = omega arith;
-      made = λ k d less some.
-          subst {A = JobData} (λ j. HoldsFrom j (from + k * each) (get_or new k d).frames) (same k d less) (made.frames k d (omega (arith, long, less)));
-    }

@@ -1,79 +1,21 @@
 -- The rows of a page that are held, step by step.
-use Rattle.std.proofs.Common.{All, ◌≡◌, ℕ, ◌+◌, ◌-◌, ◌<◌, ◌≤◌, Bool, List, [], ◌∷◌, length, get_or, set, refl, ap, sym, ◌∙◌, subst, inl, inr, arith}
+use Rattle.std.proofs.Common.{All, ◌≡◌, ℕ, ◌+◌, ◌-◌, ◌<◌, ◌≤◌, Bool, List, [], length, get_or, set, refl, ap, sym, ◌∙◌, subst, inl, inr, arith}
 use Rattle.std.proofs.lemmas.Bool.{cases_eq}
 use Rattle.std.proofs.lemmas.Grind.{get_or-set_at}
 use Rattle.std.proofs.lemmas.List.{get_or-set_other, length-set}
 use Rattle.std.proofs.lemmas.List.Elements.{All-set}
-use Rattle.pr_base.specs.declared.ink.Ink.{Ink}
-use Rattle.page_layers.specs.Inks.{HasWidth, Planes, plane_of}
+use Rattle.page_layers.specs.Inks.{HasWidth, Planes}
 use Rattle.page_layers.specs.Layer.{ink_at}
 use Rattle.page_layers.specs.Page.{Page}
 use Rattle.plan_json.specs.Data.{PlanData}
-use Rattle.plan_json.specs.Plan.{IsPlan}
 use Rattle.plan_rows.specs.Groups.{page_colour, page_spot}
 use Rattle.press_job.specs.Job.{JobData}
-use Rattle.press_job.specs.Layers.{layers_of, planned_layers}
+use Rattle.press_job.specs.Layers.{layers_of}
 use Rattle.press_job.specs.Planes.{ShowsInks}
-use Rattle.press_job.specs.Printing.{printed_ink, printed_row}
-use Rattle.scr_diffuse.proofs.LaneLemmas.{each_of_eight}
-use Rattle.press_job.proofs.PlaneLemmas.{at_inks, plane_is, plane_width, shows_printed}
+use Rattle.press_job.specs.Printing.{printed_ink}
+use Rattle.press_job.proofs.PlaneLemmas.{at_inks, plane_is, shows_printed}
 use Rattle.press_feed.specs.HeldRows.{AreHeldRows, ShowsPlanes}
 use Rattle.press_feed.specs.Sides.{page_before}
-
--- ---- no row held
-
-pub held_open : (job : JobData) (page_rows : Page) (tones : PlanData) (rows : List Planes) → IsPlan job.plan → page_rows ≡ page_before job.plan job.files page_rows.room 0 0
-    → ((page : ℕ) → length (planned_layers job.plan page) ≤ page_rows.room) → tones ≡ job.plan → length rows ≡ 8 → All (λ planes. HasWidth planes job.plan.page_width) rows
-    → AreHeldRows job page_rows 0 0 0 tones rows (0 ∷ 0 ∷ 0 ∷ 0 ∷ 0 ∷ 0 ∷ 0 ∷ 0 ∷ [])
-held_open job page_rows tones rows plan_is rows_are room tones_are eight wide = record {
-  plan_is = plan_is;
-  rows_are = rows_are;
-  room = room;
-  within = omega arith;
-  tones_are = tones_are;
-  few = omega arith;
-  eight = eight;
-  wide = wide;
-  eight_places = refl;
-  places_are = each_of_eight (λ k. get_or (0 ∷ 0 ∷ 0 ∷ 0 ∷ 0 ∷ 0 ∷ 0 ∷ 0 ∷ []) k 0 ≤ k) (omega arith) (omega arith) (omega arith) (omega arith) (omega arith) (omega arith) (omega arith) (omega arith);
-  shows = λ k d less. absurd (omega arith);
-}
-
-pub held_begin : (job : JobData) (page_rows new : Page) (old page first count : ℕ) (tones : PlanData) (rows : List Planes) (places : List ℕ) → AreHeldRows job page_rows old first count tones rows places
-    → new ≡ record page_rows { layers = layers_of job.plan job.files page; next = 0 } → AreHeldRows job new page 0 0 tones rows places
-held_begin job page_rows new old page first count tones rows places are new_is =
-    let room : new.room ≡ page_rows.room = ap (λ (p : Page). p.room) new_is in
-    record {
-      plan_is = are.plan_is;
-      rows_are = new_is ∙ ap {A = Page} (λ p. record p { layers = layers_of job.plan job.files page; next = 0 }) are.rows_are ∙ ap (λ n. page_before job.plan job.files n page 0) (sym room);
-      room = λ other. rw room (are.room other);
-      within = omega arith;
-      tones_are = are.tones_are;
-      few = omega arith;
-      eight = are.eight;
-      wide = are.wide;
-      eight_places = are.eight_places;
-      places_are = are.places_are;
-      shows = λ k d less. absurd (omega arith);
-    }
-
-pub held_forget : (job : JobData) (page_rows : Page) (page first count : ℕ) (tones : PlanData) (rows : List Planes) (places : List ℕ) → AreHeldRows job page_rows page first count tones rows places
-    → AreHeldRows job page_rows page (first + count) 0 tones rows places
-held_forget job page_rows page first count tones rows places are =
-    let same : first + count ≡ first + count + 0 = omega arith in
-    record {
-      plan_is = are.plan_is;
-      rows_are = are.rows_are ∙ ap (page_before job.plan job.files page_rows.room page) same;
-      room = are.room;
-      within = omega (arith, are.within);
-      tones_are = are.tones_are;
-      few = omega arith;
-      eight = are.eight;
-      wide = are.wide;
-      eight_places = are.eight_places;
-      places_are = are.places_are;
-      shows = λ k d less. absurd (omega arith);
-    }
 
 -- ---- one more row
 
@@ -156,17 +98,3 @@ held_repeated job page_rows new page first count tones rows places are some fits
     (are.wide (get_or places (count - 1) 0) d (omega arith)) (λ x less. same x less ∙ ap (ink_at layers x) above))
 
 -- ---- a row held
-
-pub held_width : (job : JobData) (page_rows : Page) (page first count k place : ℕ) (tones : PlanData) (rows : List Planes) (places : List ℕ) (item : Planes) (ink : Ink) (values : List ℕ)
-    → AreHeldRows job page_rows page first count tones rows places → k < 8 → place ≡ get_or places k 0 → item ≡ get_or rows place item → values ≡ plane_of item ink → length values ≡ job.plan.page_width
-held_width job page_rows page first count k place tones rows places item ink values are within place_is item_is values_are =
-    let low = are.places_are k within in
-    let long = are.eight in
-    let wide : HasWidth item job.plan.page_width = subst {A = Planes} (λ p. HasWidth p job.plan.page_width) (sym item_is) (are.wide place item (omega arith)) in
-    ap length values_are ∙ plane_width item job.plan.page_width ink wide
-
-pub held_values : (job : JobData) (page_rows : Page) (page first count k place : ℕ) (tones : PlanData) (rows : List Planes) (places : List ℕ) (item : Planes) (ink : Ink) (values : List ℕ)
-    → AreHeldRows job page_rows page first count tones rows places → k < count → place ≡ get_or places k 0 → item ≡ get_or rows place item → values ≡ plane_of item ink
-    → values ≡ printed_row job.plan job.files page ink (first + k)
-held_values job page_rows page first count k place tones rows places item ink values are within place_is item_is values_are =
-    values_are ∙ ap (λ p. plane_of p ink) (item_is ∙ ap (λ n. get_or rows n item) place_is) ∙ (are.shows k item within).each ink

@@ -77,12 +77,6 @@ page_row-is plan y row there = found (shape_of_plate plan).top_y plan.page_heigh
     found : (top height : ℕ) → cond {A = Option ℕ} (nat_le top y && nat_lt (y - top) height) (Some (y - top)) None ≡ Some row → (in_span top (top + height) y ≡ true) × (y - top ≡ row)
     found top height h = grind (arith, nat_tests)
 
-page_row-none : (plan : PlanData) (y : ℕ) → page_row plan y ≡ None → in_span (shape_of_plate plan).top_y ((shape_of_plate plan).top_y + plan.page_height) y ≡ false
-page_row-none plan y none = outside (shape_of_plate plan).top_y plan.page_height none
-  where
-    outside : (top height : ℕ) → cond {A = Option ℕ} (nat_le top y && nat_lt (y - top) height) (Some (y - top)) None ≡ None → in_span top (top + height) y ≡ false
-    outside top height h = grind (arith, nat_tests)
-
 -- two pages drawn on a blank row
 pub pages_set : (plan : PlanData) (files : List (List ℕ)) (left right : ℕ) (ink : Ink) (y row n : ℕ) (zeros one two : List ℕ) → zeros ≡ replicate {A = ℕ} n 0 → page_row plan y ≡ Some row
     → SetsBits (λ x. page_bit plan files left ink x row) (shape_of_plate plan).left_x plan.page_width zeros one
@@ -105,27 +99,6 @@ pages_set plan files left right ink y row n zeros one two none there first secon
           ∙ by_sides in_left in_right a b (apart_spans shape.left_x (shape.left_x + plan.page_width) shape.right_x (shape.right_x + plan.page_width) x (omega arith))
           ∙ ap (λ row_in. ((in_left && row_in) && a) || ((in_right && row_in) && b)) (sym seen.0));
     }
-
--- above and below the pages no pixel is set
-pub no_pages : (plan : PlanData) (files : List (List ℕ)) (left right : ℕ) (ink : Ink) (y n : ℕ) (zeros : List ℕ) → zeros ≡ replicate {A = ℕ} n 0 → page_row plan y ≡ None
-    → ShowsPages plan files left right ink y zeros
-no_pages plan files left right ink y n zeros none outside =
-    let shape = shape_of_plate plan in
-    record {
-      each = λ x.
-          (let in_left = in_span shape.left_x (shape.left_x + plan.page_width) x in
-          let in_right = in_span shape.right_x (shape.right_x + plan.page_width) x in
-          let a = page_bit plan files left ink (x - shape.left_x) (y - shape.top_y) in
-          let b = page_bit plan files right ink (x - shape.right_x) (y - shape.top_y) in
-          ap (λ bits. bit_at bits x) none ∙ bit_at-zeros n x ∙ none_of in_left in_right a b
-          ∙ ap (λ row_in. ((in_left && row_in) && a) || ((in_right && row_in) && b)) (sym (page_row-none plan y outside)));
-    }
-  where
-    none_of : (l r a b : Bool) → false ≡ (((l && false) && a) || ((r && false) && b))
-    none_of true true a b = refl
-    none_of true false a b = refl
-    none_of false true a b = refl
-    none_of false false a b = refl
 
 -- no page extends beyond the plate
 past : (plan : PlanData) (files : List (List ℕ)) (left right : ℕ) (ink : Ink) (x y : ℕ) → plate_width plan ≤ x

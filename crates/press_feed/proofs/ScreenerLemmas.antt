@@ -1,5 +1,5 @@
 -- The screeners of a plan's inks: one for each, and what a tile makes of a row.
-use Rattle.std.proofs.Common.{◌≡◌, ℕ, ◌+◌, ◌<◌, Bool, true, false, List, [], ◌∷◌, ◌++◌, length, get_or, ap, sym, ◌∙◌, subst, arith, below_more}
+use Rattle.std.proofs.Common.{◌≡◌, ℕ, ◌+◌, ◌<◌, false, List, [], ◌∷◌, ◌++◌, length, get_or, ap, sym, ◌∙◌, subst, arith, below_more}
 use Rattle.std.specs.Prelude.{slice_index}
 use Rattle.std.proofs.lemmas.List.{get_or_push, get_or_append_left, get_or_default}
 use Rattle.std.proofs.lemmas.List.FromFn.{get_or-map-range_with_len}
@@ -14,10 +14,10 @@ use Rattle.plan_parts.specs.declared.printing.Screen.{Screen}
 use Rattle.plan_parts.specs.declared.printing.Screen.TheVariants.{Bayer, Diffuse, Own}
 use Rattle.plan_json.specs.Data.{PlanData}
 use Rattle.press_feed.specs.declared.screener.Screener.{Screener}
-use Rattle.press_feed.specs.declared.screener.Screener.TheVariants.{Tile, Diffusion}
+use Rattle.press_feed.specs.declared.screener.Screener.TheVariants.{Tile}
 use Rattle.press_job.specs.Printing.{bit_under, page_bit, page_values, printed_at, printed_row, screen_of}
 use Rattle.press_job.proofs.PlaneLemmas.{get_or-printed_row}
-use Rattle.press_feed.specs.Screener.{AreScreeners, IsScreener, is_diffused, is_diffusion, threshold_under}
+use Rattle.press_feed.specs.Screener.{AreScreeners, IsScreener, is_diffusion, threshold_under}
 
 -- ---- one for each ink
 
@@ -50,16 +50,6 @@ pub own_tile : (plan side_plan : PlanData) (ink : Ink) (screeners : List Screene
     → IsScreener side_plan ink (Tile tile)
 own_tile plan side_plan ink screeners i own tile are same i_is own_is is =
     subst {A = PlanData} (λ p. IsScreener p ink (Tile tile)) (sym same) (own_screener plan ink screeners i own (Tile tile) are i_is own_is is)
-
--- an ink under a tile has no other screener
-pub no_diffusion : (plan : PlanData) (ink : Ink) (screeners : List Screener) (i : ℕ) (own : Screener) → AreScreeners plan screeners → i ≡ slot_of ink → own ≡ get_or screeners i own → own ≡ Diffusion → is_diffused plan ink ≡ false → ⊥
-no_diffusion plan ink screeners i own are i_is own_is is off =
-    let kind : true ≡ is_diffused plan ink = (own_screener plan ink screeners i own Diffusion are i_is own_is is).kind in
-    not_both (is_diffused plan ink) kind off
-  where
-    not_both : (flag : Bool) → true ≡ flag → flag ≡ false → ⊥
-    not_both true on off = cc
-    not_both false on off = cc
 
 -- ---- a row
 

@@ -11,8 +11,6 @@ use Rattle.press_job.proofs.FrameLemmas.{length-plate_frames}
 use Rattle.press_feed.proofs.FeedLemmas.{next_small}
 use Rattle.press_feed.specs.declared.band_rows.BandRows.{BandRows}
 use Rattle.press_feed.specs.Band.{FrameData, HoldsFrom, IsFrameAt}
-use Rattle.press_feed.specs.Frames.{AreOf}
-use Rattle.press_feed.specs.Drawn.{DrawnData}
 use Rattle.press_feed.specs.SideBand.{AreRowsFor, AreRowsOf, IsKept, IsPartOf}
 use Rattle.press_feed.specs.SideRows.{SideRowsData}
 
@@ -45,19 +43,10 @@ pub parts_kept : (job : JobData) (height : ℕ) (old new : List SideRowsData) �
 parts_kept job height old new are long kept =
     λ k d less. (let within : k < length old = omega (arith, long, less) in part_kept job height (get_or old k d) (get_or new k d) (are k d within) (kept k d within))
 
--- rows of the job are rows of the job of a part
-pub rows_of_part : (job : JobData) (height : ℕ) (part : SideRowsData) (drawn : List DrawnData) → IsPartOf job height part → AreOf job drawn → AreOf part.job drawn
-rows_of_part job height part drawn is are = subst {A = JobData} (λ j. AreOf j drawn) (sym is.job_is) are
-
 -- each part may draw the rows of a step
 pub rows_for_each : (job : JobData) (height : ℕ) (parts : List SideRowsData) (next : Option BandRows) → All (IsPartOf job height) parts → ForSome next (AreRowsOf job height)
     → (k : ℕ) (d : SideRowsData) → k < length parts → ForSome next (AreRowsFor (get_or parts k d))
 rows_for_each job height parts next are of = λ k d less rows there. rows_for job height (get_or parts k d) rows (are k d less) (of rows there)
-
--- drawn rows of the job are of the job of each part
-pub rows_of_each : (job : JobData) (height : ℕ) (parts : List SideRowsData) (drawn : List DrawnData) → All (IsPartOf job height) parts → AreOf job drawn
-    → (k : ℕ) (d : SideRowsData) → k < length parts → AreOf (get_or parts k d).job drawn
-rows_of_each job height parts drawn are of = λ k d less. rows_of_part job height (get_or parts k d) drawn (are k d less) of
 
 -- the number of a frame is small
 pub small_number : (job : JobData) (n : ℕ) → IsPlan job.plan → n < length (plate_frames job.plan job.files) → n ≤ 2684313600

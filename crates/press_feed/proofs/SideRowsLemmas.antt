@@ -17,7 +17,7 @@ use Rattle.press_feed.specs.Drawn.{DrawnData, HasRow, before_row, behind_rows, b
 use Rattle.press_feed.specs.HeldRows.{HeldData, next_rows, top_of}
 use Rattle.press_feed.specs.InkRows.{InkData, IsAtRow, IsNextChain, IsNextIn, IsReady, begun, drawn_on, passed, restarted}
 use Rattle.press_feed.specs.PlateRow.{IsRowsOf}
-use Rattle.press_feed.specs.SideRows.{AreInAll, HaveRoom, IsAtGroup, IsDrawnOf, IsOpenFor, SideRowsData, drawn_behind, drawn_for, drawns, next_of}
+use Rattle.press_feed.specs.SideRows.{AreInAll, HaveRoom, IsAtGroup, IsDrawnOf, IsMovedTo, IsOpenFor, IsSameSide, SideRowsData, drawn_behind, drawn_for, drawns, next_of}
 use Rattle.press_feed.specs.Sides.{page_on}
 
 no_ink : (b : Bool) → b ≡ true → b ≡ false → ⊥
@@ -241,14 +241,18 @@ all_open group side page next first done rows most old new is page_is next_is fi
 pub at_same : (group : Group) (a b : ℕ) (rows : SideRowsData) → IsAtGroup group a rows → a ≡ b → IsAtGroup group b rows
 at_same group a b rows at same = subst {A = ℕ} (λ n. IsAtGroup group n rows) same at
 
-pub restart_at : (group : Group) (page : ℕ) (old new : SideRowsData) → page ≡ page_on old.side group → new.held ≡ top_of page old.held → new.side ≡ old.side → new.inks ≡ map (restarted group page) old.inks → IsAtGroup group 0 new
-restart_at group page old new page_is held_is side_is inks_is =
-    let same : new.held.page ≡ page = ap {A = HeldData} (λ h. h.page) held_is in
+pub restart_at : (group : Group) (page : ℕ) (old new : SideRowsData) → page ≡ page_on old.side group → new.held ≡ top_of page old.held → IsSameSide old new → new.inks ≡ map (restarted group page) old.inks → IsMovedTo group 0 old new
+restart_at group page old new page_is held_is same inks_is =
+    let at_page : new.held.page ≡ page = ap {A = HeldData} (λ h. h.page) held_is in
     record {
-      page_is = same ∙ page_is ∙ ap {A = Side} (λ s. page_on s group) (sym side_is);
-      next_is = ap {A = HeldData} (λ h. h.first + h.count) held_is;
-      chains = subst {A = List InkData} (λ inks. All (IsReady group new.held.page 0) inks) (sym inks_is)
-          (subst {A = ℕ} (λ p. All (IsReady group p 0) (map (restarted group page) old.inks)) (sym same) (all_ready_top group page old.inks));
+      at = record {
+        page_is = at_page ∙ page_is ∙ ap {A = Side} (λ s. page_on s group) (sym same.side_is);
+        next_is = ap {A = HeldData} (λ h. h.first + h.count) held_is;
+        chains = subst {A = List InkData} (λ inks. All (IsReady group new.held.page 0) inks) (sym inks_is)
+            (subst {A = ℕ} (λ p. All (IsReady group p 0) (map (restarted group page) old.inks)) (sym at_page) (all_ready_top group page old.inks));
+      };
+      same = same;
+      drawn = ap drawns inks_is ∙ drawns-restarted group page old.inks;
     }
 
 pub begin_at : (group : Group) (page first : ℕ) (old new : SideRowsData) → new.held ≡ old.held → new.side ≡ old.side → new.inks ≡ map (begun group page first) old.inks → IsAtGroup group first old → IsAtGroup group first new
@@ -261,14 +265,18 @@ begin_at group page first old new held_is side_is inks_is at =
           (subst {A = ℕ} (λ p. All (IsReady group p first) (map (begun group page first) old.inks)) (sym same) (all_ready_begun group old.held.page first page first old.inks at.chains));
     }
 
-pub pass_at : (group : Group) (old new : SideRowsData) → new.held ≡ next_rows 8 old.held → new.side ≡ old.side → new.inks ≡ map (passed group) old.inks → IsAtGroup group (next_of old) old → IsAtGroup group (next_of old + 8) new
-pass_at group old new held_is side_is inks_is at =
-    let same : new.held.page ≡ old.held.page = ap {A = HeldData} (λ h. h.page) held_is in
+pub pass_at : (group : Group) (old new : SideRowsData) → new.held ≡ next_rows 8 old.held → IsSameSide old new → new.inks ≡ map (passed group) old.inks → IsAtGroup group (next_of old) old → IsMovedTo group (next_of old + 8) old new
+pass_at group old new held_is same inks_is at =
+    let on_page : new.held.page ≡ old.held.page = ap {A = HeldData} (λ h. h.page) held_is in
     record {
-      page_is = same ∙ at.page_is ∙ ap {A = Side} (λ s. page_on s group) (sym side_is);
-      next_is = ap {A = HeldData} (λ h. h.first + h.count) held_is;
-      chains = subst {A = List InkData} (λ inks. All (IsReady group new.held.page (next_of old + 8)) inks) (sym inks_is)
-          (subst {A = ℕ} (λ p. All (IsReady group p (next_of old + 8)) (map (passed group) old.inks)) (sym same) (all_ready_block group old.held.page (next_of old) old.inks at.chains));
+      at = record {
+        page_is = on_page ∙ at.page_is ∙ ap {A = Side} (λ s. page_on s group) (sym same.side_is);
+        next_is = ap {A = HeldData} (λ h. h.first + h.count) held_is;
+        chains = subst {A = List InkData} (λ inks. All (IsReady group new.held.page (next_of old + 8)) inks) (sym inks_is)
+            (subst {A = ℕ} (λ p. All (IsReady group p (next_of old + 8)) (map (passed group) old.inks)) (sym on_page) (all_ready_block group old.held.page (next_of old) old.inks at.chains));
+      };
+      same = same;
+      drawn = ap drawns inks_is ∙ drawns-passed group old.inks;
     }
 
 pub draw_at : (group : Group) (rows : ℕ) (old new : SideRowsData) → rows ≡ 8 → new.held ≡ next_rows rows old.held → new.side ≡ old.side → new.inks ≡ map (drawn_on group rows) old.inks → IsAtGroup group (next_of old) old → IsAtGroup group (next_of old + 8) new
@@ -300,9 +308,10 @@ draw_ready group job side n old new inks new_is ready job_is of some within whol
 
 -- ---- inks that were lent
 
--- the inks after a call to which all were lent
-pub lent : (f : InkData → InkData) (old new : List InkData) (len : ℕ) → new ≡ map f old → length new ≡ len → take len (new ++ drop (length new) old) ≡ map f old
-lent f old new len is long = take_at new (drop (length new) old) len long ∙ is
+-- the inks after a call to which all were lent, which took each a step further
+pub lent : (f : InkData → InkData) (given old new : List InkData) (len : ℕ) → given ≡ old → new ≡ map f given → length old ≡ len → take len (new ++ drop (length new) old) ≡ map f old
+lent f given old new len given_is new_is long =
+    take_at new (drop (length new) old) len (ap {A = List InkData} length new_is ∙ length-map given f ∙ ap {A = List InkData} length given_is ∙ long) ∙ new_is ∙ ap (map f) given_is
 
 -- one of them
 pub item_of : (job : JobData) (side : Side) (inks : List InkData) (i : ℕ) (item : InkData) → All (IsDrawnOf job side) (drawns inks) → i < length inks → item ≡ get_or inks i item → IsDrawnOf job side item.drawn

@@ -59,6 +59,10 @@ pub record BandData : Type 0 where
   pub first : ℕ
   pub end : ℕ
 
+-- frame n is one of these
+abbrev pub Covers : BandData → ℕ → Type 0
+Covers band n = (band.first ≤ n) × (n < band.end)
+
 -- shares of equal capacity, whose frames are consecutive if the band is not empty
 pub record IsBand (job : JobData) (each first end : ℕ) (shares : List ShareData) : Type 0 where
   pub some : 0 < each

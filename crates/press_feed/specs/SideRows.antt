@@ -1,5 +1,5 @@
 -- The rows of one side's pages in some inks.
-use Rattle.std.specs.Prelude.{◌≡◌, ℕ, ◌+◌, ◌≤◌, true, if◌then◌else◌, List, map}
+use Rattle.std.specs.Prelude.{◌≡◌, ℕ, ◌+◌, ◌≤◌, true, if◌then◌else◌, List, length, map}
 use Rattle.std.specs.List.{All}
 use Rattle.pr_base.specs.Ink.{all_inks}
 use Rattle.plan_rows.specs.Inks.{has_ink}
@@ -61,6 +61,18 @@ pub record IsOpenFor (group : Group) (page next count : ℕ) (drawn : DrawnData)
 pub record IsSameSide (old new : SideRowsData) : Type 0 where
   pub job_is : new.job ≡ old.job
   pub side_is : new.side ≡ old.side
+
+-- the same side, of which row `first` of the page of a group is next, with the drawn rows that it had
+pub record IsMovedTo (group : Group) (first : ℕ) (old new : SideRowsData) : Type 0 where
+  pub at : IsAtGroup group first new
+  pub same : IsSameSide old new
+  pub drawn : drawns new.inks ≡ drawns old.inks
+
+-- the same side with other drawn rows in its inks, in as much room
+pub record IsExchanged (old new : SideRowsData) : Type 0 where
+  pub same : IsSameSide old new
+  pub count : length new.inks ≡ length old.inks
+  pub room : (height : ℕ) → HaveRoom height old.inks → HaveRoom height new.inks
 
 -- ---- the invariant
 

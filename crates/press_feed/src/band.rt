@@ -1,7 +1,7 @@
 // A band of frames, made by as many threads as it has shares.
 ghost use Rattle.std.specs.Prelude.{All, ◌≡◌, ℕ, ◌+◌, ◌*◌, ◌<◌, ◌≤◌, ◌^◌, IfOk, IsTrue, ◌↔◌, length};
 ghost use Rattle.std.specs.Prelude.{slice_index_or};
-ghost use Rattle.press_feed.specs.Band.{AreMade, HoldsFrom, IsShareOf, ShareData};
+ghost use Rattle.press_feed.specs.Band.{AreMade, Covers, HoldsFrom, IsShareOf, ShareData};
 
 use crate::frame::BandFrame;
 use crate::share::Share;
@@ -79,15 +79,14 @@ impl<'j> Band<'j> {
 
     /// Whether the band covers frame `n`.
     pub(crate) fn has(&self, n: u64) -> bool
-        ensures { IsTrue result ↔ ((self.now.first ≤ n) × (n < self.now.end)) }
+        ensures { IsTrue result ↔ Covers self.now n }
     {
         self.first <= n && n < self.end
     }
 
     /// Lends the buffer of frame `n`, which the band covers.
     pub(crate) fn frame(&self, n: u64) -> &BandFrame
-        requires first { self.now.first ≤ n }
-        requires end { n < self.now.end }
+        requires { Covers self.now n }
         ensures frame { IsFrameAt self.now.job n result.now }
         ensures len { length result.now.bytes ≡ frame_bytes self.now.job }
     {

@@ -51,8 +51,8 @@ impl<'j> BandPart<'j> {
         requires frames { frames ≤ 65536 }
         ensures { IfOk result (IsPartOf job.now height) }
     {
-        let rows = SideRows::open(alloc, job, side, inks, height)?;
         let frames = Frames::open(alloc, job, frames)?;
+        let rows = SideRows::open(alloc, job, side, inks, height)?;
         Ok(BandPart {
             job,
             inks,

@@ -95,8 +95,8 @@ impl<'j> Feed<'j> {
     {
         let by_sides = if diffuses(job, wanted) { threads } else { 0 };
         let band = Band::open(alloc, job, wanted, threads - by_sides, share_len(job))?;
-        let maker = RowMaker::open(alloc, job, wanted)?;
         let wide = open_sides(alloc, job, wanted, by_sides, height)?;
+        let maker = RowMaker::open(alloc, job, wanted)?;
         Ok(Feed {
             job,
             maker,

@@ -44,9 +44,10 @@ impl BandFrame {
         ensures maker { maker.new ≡ maker.old }
     {
         self.made = maker.is_wanted(n);
-        if self.made {
-            maker.make(n, &mut self.bytes);
+        if !self.made {
+            return;
         }
+        maker.make(n, &mut self.bytes);
     }
 
     /// Keeps the buffer, and no frame in it.

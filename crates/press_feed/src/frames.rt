@@ -9,8 +9,8 @@ ghost use Rattle.press_job.specs.Rows.{plate_frames, plate_row};
 
 use crate::drawn_rows::DrawnRows;
 use crate::frame::{BandFrame, band_frames};
+use crate::pages::page_row;
 use crate::plate_row::{join_sides, rows_with};
-use crate::row_maker::page_row;
 use crate::side::Side;
 use plan_pages::mark_row;
 use plan_rows::{Group, RowPlace};

@@ -56,9 +56,9 @@ impl<'j> HeldRows<'j> {
         ensures { IfOk result (λ held. held ≡ record { job = job.now; page = 0; first = 0; count = 0 }) }
     {
         let plan = job.plan();
-        let page_rows = open_page(alloc, job)?;
-        let tones = Tones::of(alloc, plan)?;
         let rows = printed_rows(alloc, plan)?;
+        let tones = Tones::of(alloc, plan)?;
+        let page_rows = open_page(alloc, job)?;
         Ok(HeldRows {
             job,
             page_rows,

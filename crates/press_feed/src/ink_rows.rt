@@ -1,6 +1,6 @@
 // One ink of a side: how it is screened, and the rows that are drawn in it.
-ghost use Rattle.std.specs.Prelude.{◌≡◌, ◌+◌, ◌≤◌, IfOk, IsTrue};
-ghost use Rattle.press_feed.specs.Drawn.{IsLike, blank_rows};
+ghost use Rattle.std.specs.Prelude.{◌≡◌, IfOk, IsTrue};
+ghost use Rattle.press_feed.specs.Drawn.{IsLike};
 ghost use Rattle.press_feed.specs.InkRows.{IsNextChain, IsNextIn, IsReady, begun, drawn_on, passed};
 ghost use Rattle.press_feed.specs.InkRows.{restarted};
 
@@ -9,9 +9,8 @@ use crate::drawer::Drawer;
 use crate::drawn_rows::DrawnRows;
 use crate::held_rows::HeldRows;
 use crate::screener::Screener;
-use crate::side::Side;
 use plan_rows::Group;
-use pr_base::{Ink, NoMemory};
+use pr_base::NoMemory;
 use press_job::Job;
 use std::alloc::Global;
 use std::marker::Model;
@@ -34,18 +33,16 @@ impl<'j> Model for InkRows<'j> {
 }
 
 impl<'j> InkRows<'j> {
-    /// Allocates room for `room` rows of an ink. None is drawn.
-    pub(crate) fn open(
+    /// Returns the drawn rows of an ink of a job, with what screens the rows that are drawn next.
+    pub(crate) fn of(
         alloc: Global,
         job: &'j Job,
-        side: Side,
-        ink: Ink,
-        room: usize,
+        drawn: DrawnRows<'j>,
     ) -> Result<InkRows<'j>, NoMemory>
-        requires { room ≤ 65536 }
-        ensures { IfOk result (λ rows. rows.drawn ≡ blank_rows job.now side room ink) }
+        requires { drawn.job ≡ job.now }
+        ensures { IfOk result (λ rows. rows.drawn ≡ drawn.entry) }
     {
-        let drawn = DrawnRows::open(alloc, job, side, ink, room)?;
+        let ink = drawn.ink();
         match Screener::of(alloc, job.plan(), ink)? {
             Screener::Tile(tile) => Ok(InkRows {
                 drawer: Drawer::Tiled(tile),

@@ -17,6 +17,7 @@ mod ink_rows;
 mod ink_shares;
 mod page_blocks;
 mod page_pair;
+mod pages;
 mod plate_row;
 mod row_maker;
 mod screener;

@@ -16,7 +16,7 @@ use crate::band_rows::{BandRows, rows_after, rows_from};
 use crate::drawn_rows::DrawnRows;
 use crate::held_rows::BLOCK;
 use crate::ink_shares::{inks_of_share, work_of};
-use crate::row_maker::page_row;
+use crate::pages::page_row;
 use crate::side::Side;
 use crate::wanted::Wanted;
 use pr_base::{Ink, NoMemory};

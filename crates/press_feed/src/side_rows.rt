@@ -9,8 +9,8 @@ ghost use Rattle.press_feed.specs.Frames.{AreOf};
 ghost use Rattle.press_feed.specs.InkRows.{IsNextChain, IsNextIn, IsReady, begun, drawn_on, passed};
 ghost use Rattle.press_feed.specs.InkRows.{restarted};
 ghost use Rattle.press_feed.specs.PlateRow.{IsRowsOf};
-ghost use Rattle.press_feed.specs.SideRows.{AreInAll, HaveRoom, IsAtGroup, IsOpenFor, IsSameSide};
-ghost use Rattle.press_feed.specs.SideRows.{drawn_behind, drawn_for, drawns, next_of};
+ghost use Rattle.press_feed.specs.SideRows.{AreInAll, HaveRoom, IsAtGroup, IsExchanged, IsMovedTo};
+ghost use Rattle.press_feed.specs.SideRows.{IsOpenFor, IsSameSide, drawn_behind, drawn_for, drawns, next_of};
 ghost use Rattle.press_feed.specs.Sides.{page_on};
 
 use crate::drawn_rows::DrawnRows;
@@ -68,8 +68,8 @@ impl<'j> SideRows<'j> {
             (λ rows. drawns rows.inks ≡ map (blank_rows job.now side room) inks.now) }
         ensures room { IfOk result (λ rows. HaveRoom room rows.inks) }
     {
-        let held = HeldRows::open(alloc, job)?;
         let inks = open_inks(alloc, job, side, inks, room)?;
+        let held = HeldRows::open(alloc, job)?;
         Ok(SideRows {
             job,
             side,
@@ -140,9 +140,7 @@ impl<'j> SideRows<'j> {
     fn enter(&mut self, group: &Group, first: u32)
         requires whole { first % 8 ≡ 0 }
         requires within { first ≤ self.old.job.plan.page_height }
-        ensures at { IsAtGroup group.now first self.new }
-        ensures same { IsSameSide self.old self.new }
-        ensures drawn { drawns self.new.inks ≡ drawns self.old.inks }
+        ensures { IsMovedTo group.now first self.old self.new }
     {
         if self.is_at(group, first) {
             return;
@@ -167,9 +165,7 @@ impl<'j> SideRows<'j> {
     fn reach(&mut self, group: &Group, first: u32)
         requires whole { first % 8 ≡ 0 }
         requires within { first ≤ self.old.job.plan.page_height }
-        ensures at { IsAtGroup group.now first self.new }
-        ensures same { IsSameSide self.old self.new }
-        ensures drawn { drawns self.new.inks ≡ drawns self.old.inks }
+        ensures { IsMovedTo group.now first self.old self.new }
     {
         self.restart(group);
         for _block in 0..first / BLOCK {
@@ -179,9 +175,7 @@ impl<'j> SideRows<'j> {
 
     /// Moves to the top of the page of a group.
     fn restart(&mut self, group: &Group)
-        ensures at { IsAtGroup group.now 0 self.new }
-        ensures same { IsSameSide self.old self.new }
-        ensures drawn { drawns self.new.inks ≡ drawns self.old.inks }
+        ensures { IsMovedTo group.now 0 self.old self.new }
     {
         let page = self.side.page_of(group);
         self.held.begin(page);
@@ -192,9 +186,7 @@ impl<'j> SideRows<'j> {
     fn pass_block(&mut self, group: &Group)
         requires at { IsAtGroup group.now (next_of self.old) self.old }
         requires within { next_of self.old + 8 ≤ self.old.job.plan.page_height }
-        ensures at { IsAtGroup group.now (next_of self.old + 8) self.new }
-        ensures same { IsSameSide self.old self.new }
-        ensures drawn { drawns self.new.inks ≡ drawns self.old.inks }
+        ensures { IsMovedTo group.now (next_of self.old + 8) self.old self.new }
     {
         self.held.show(BLOCK);
         pass_all(group, &self.held, &mut self.inks);
@@ -250,9 +242,7 @@ impl<'j> SideRows<'j> {
     /// Exchanges the drawn rows for those among others that are alike.
     pub(crate) fn exchange(&mut self, others: &mut [DrawnRows<'j>])
         requires { AreOf self.old.job others.old }
-        ensures job { self.new.job ≡ self.old.job }
-        ensures side { self.new.side ≡ self.old.side }
-        ensures room { (height : ℕ) → HaveRoom height self.old.inks → HaveRoom height self.new.inks }
+        ensures own { IsExchanged self.old self.new }
         ensures others { AreOf self.old.job others.new }
     {
         for index in 0..self.inks.len() {
@@ -264,9 +254,7 @@ impl<'j> SideRows<'j> {
     fn exchange_ink(&mut self, index: usize, others: &mut [DrawnRows<'j>])
         requires index { index < length self.old.inks }
         requires others { AreOf self.old.job others.old }
-        ensures same { IsSameSide self.old self.new }
-        ensures count { length self.new.inks ≡ length self.old.inks }
-        ensures room { (height : ℕ) → HaveRoom height self.old.inks → HaveRoom height self.new.inks }
+        ensures own { IsExchanged self.old self.new }
         ensures others { AreOf self.old.job others.new }
     {
         for other in 0..others.len() {
@@ -278,9 +266,7 @@ impl<'j> SideRows<'j> {
     fn exchange_rows(&mut self, index: usize, rows: &mut DrawnRows<'j>)
         requires index { index < length self.old.inks }
         requires rows { rows.old.job ≡ self.old.job }
-        ensures same { IsSameSide self.old self.new }
-        ensures count { length self.new.inks ≡ length self.old.inks }
-        ensures room { (height : ℕ) → HaveRoom height self.old.inks → HaveRoom height self.new.inks }
+        ensures own { IsExchanged self.old self.new }
         ensures rows { rows.new.job ≡ self.old.job }
     {
         self.inks[index].exchange(rows);
@@ -300,7 +286,8 @@ fn open_inks<'j>(
 {
     let mut rows = Vec::with_capacity(alloc, inks.len())?;
     for ink in inks {
-        rows.push(InkRows::open(alloc, job, side, *ink, room)?)?;
+        let drawn = DrawnRows::open(alloc, job, side, *ink, room)?;
+        rows.push(InkRows::of(alloc, job, drawn)?)?;
     }
     Ok(rows)
 }

@@ -5,6 +5,7 @@ use Rattle.press_feed.specs.InkRows.{InkData, IsNextIn, drawn_on}
 use Rattle.press_feed.specs.SideRows.{IsAtGroup, IsOpenFor, SideRowsData, drawn_behind, drawns, next_of}
 use Rattle.press_feed.proofs.SideRowsLemmas.{draw_at, draw_ready, drawns-drawn, lent, sides_drawn_on}
 use Rattle.press_feed.proofs.side_rows.SideRows.draw_block.Goals as goal
+use Rattle.press_feed.proofs.side_rows.SideRows.draw_block.Goals.{After-draw_all}
 
 pub draw_all-requires : goal.draw_all-requires
 draw_all-requires c =
@@ -20,17 +21,19 @@ draw_all-requires c =
     (subst {A = SideRowsData} (λ r. rows < 8 → next_of r + rows ≡ r.job.plan.page_height) (sym e) c.requires.whole)
     (subst {A = SideRowsData} (λ r. All (IsOpenFor group r.held.page (next_of r) rows) (drawns r.inks)) (sym e) c.requires.free))
 
+-- the inks then
+inks_are : (c : After-draw_all) → take c.self.inside.inks.len (c.draw_all.new.inks ++ drop (length c.draw_all.new.inks) c.self.inside.inks.items) ≡ map (drawn_on c.args.group.now c.args.rows) c.self.inside.inks.items
+inks_are c =
+    lent (drawn_on c.args.group.now c.args.rows) c.deref_mut.result.now c.self.inside.inks.items c.draw_all.new.inks c.self.inside.inks.len c.deref_mut.ensures.value
+    (c.draw_all.ensures ∙ ap {A = HeldData} (λ h. map (drawn_on c.args.group.now h.count) c.deref_mut.result.now) c.show.ensures) (omega arith)
+
 pub invariant_of-self : goal.invariant_of-self
 invariant_of-self c =
     let s = c.self.inside in
     let group = c.args.group.now in
-    let new = c.draw_all.new.inks in
-    let step : InkData → InkData = drawn_on group c.args.rows in
-    let long : length new ≡ length s.inks.items = omega (arith, ap length c.deref_mut.ensures.value) in
-    let inks = lent step s.inks.items new s.inks.len (c.draw_all.ensures ∙ ap {A = HeldData} (λ h. map (drawn_on group h.count) c.deref_mut.result.now) c.show.ensures ∙ ap (map step) c.deref_mut.ensures.value) (omega arith) in
     record {
       job_is = ap {A = HeldData} (λ h. h.job) c.show.ensures ∙ c.self.invariant.job_is;
-      each = sides_drawn_on s.job.now s.side group c.args.rows s.inks.items (take s.inks.len (new ++ drop (length new) s.inks.items)) (ap drawns inks ∙ drawns-drawn group c.args.rows s.inks.items) c.self.invariant.each;
+      each = sides_drawn_on s.job.now s.side group c.args.rows s.inks.items _ (ap drawns (inks_are (goal.at.invariant_of-self c).After-draw_all) ∙ drawns-drawn group c.args.rows s.inks.items) c.self.invariant.each;
     }
 
 pub returns-clause-at : goal.returns-clause-at
@@ -38,20 +41,12 @@ returns-clause-at c = λ eight.
     let s = c.self.inside in
     let group = c.args.group.now in
     let new = c.draw_all.new.inks in
-    let step : InkData → InkData = drawn_on group c.args.rows in
-    let long : length new ≡ length s.inks.items = omega (arith, ap length c.deref_mut.ensures.value) in
-    let inks = lent step s.inks.items new s.inks.len (c.draw_all.ensures ∙ ap {A = HeldData} (λ h. map (drawn_on group h.count) c.deref_mut.result.now) c.show.ensures ∙ ap (map step) c.deref_mut.ensures.value) (omega arith) in
     let before : SideRowsData = record { job = s.job.now; side = s.side; held = s.held; inks = s.inks.items } in
-    let after : SideRowsData = record { job = s.job.now; side = s.side; held = c.show.new.self; inks = take s.inks.len (new ++ drop (length new) s.inks.items) } in
+    let after : SideRowsData = record before { held = c.show.new.self; inks = take s.inks.len (new ++ drop (length new) s.inks.items) } in
     let at : IsAtGroup group (next_of before) before = subst {A = SideRowsData} (λ r. IsAtGroup group (next_of r) r) (sym c.self.view_is) c.requires.at in
-    subst {A = SideRowsData} (λ r. IsAtGroup group (next_of r + 8) after) c.self.view_is (draw_at group c.args.rows before after eight c.show.ensures refl inks at)
+    subst {A = SideRowsData} (λ r. IsAtGroup group (next_of r + 8) after) c.self.view_is (draw_at group c.args.rows before after eight c.show.ensures refl (inks_are (goal.at.returns-clause-at c).After-draw_all) at)
 
 pub returns-clause-drawn : goal.returns-clause-drawn
 returns-clause-drawn c =
-    let s = c.self.inside in
-    let group = c.args.group.now in
-    let new = c.draw_all.new.inks in
-    let step : InkData → InkData = drawn_on group c.args.rows in
-    let long : length new ≡ length s.inks.items = omega (arith, ap length c.deref_mut.ensures.value) in
-    let inks = lent step s.inks.items new s.inks.len (c.draw_all.ensures ∙ ap {A = HeldData} (λ h. map (drawn_on group h.count) c.deref_mut.result.now) c.show.ensures ∙ ap (map step) c.deref_mut.ensures.value) (omega arith) in
-    ap drawns inks ∙ drawns-drawn group c.args.rows s.inks.items ∙ ap {A = SideRowsData} (λ r. map (drawn_behind group c.args.rows) (drawns r.inks)) c.self.view_is
+    ap drawns (inks_are (goal.at.returns-clause-drawn c).After-draw_all) ∙ drawns-drawn c.args.group.now c.args.rows c.self.inside.inks.items
+    ∙ ap {A = SideRowsData} (λ r. map (drawn_behind c.args.group.now c.args.rows) (drawns r.inks)) c.self.view_is
