@@ -33,7 +33,7 @@ made_more job first i frames frame within own is = record {
 
 -- one more, of which holds what holds of all so far
 pub pushed_all : {X : Type 0} (P : X → Type 0) (old new : List X) (x : X) → new ≡ old ++ x ∷ [] → All P old → P x → All P new
-pushed_all P old new x is all own = subst {A = List X} (All P) (sym is) (All-append P old (x ∷ []) all (All-cons P x [] own (All-nil P)))
+pushed_all {X = X} P old new x is all own = subst {A = List X} (All P) (sym is) (All-append P old (x ∷ []) all (All-cons P x [] own (All-nil P)))
 
 -- an index below the total is in one of the shares
 share_within : (at each count : ℕ) → 0 < each → at < count * each → at / each < count
