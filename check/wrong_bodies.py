@@ -45,14 +45,22 @@ def wrong_bodies(crate):
     return sorted(name.removesuffix(".edit") for name in os.listdir(folder) if name.endswith(".edit"))
 
 
+def heads_of(text):
+    """The functions of a source text in order: the first line of each, with what stands before it up to the end of
+    the item before (the prover's places are those of a function's attributes), and its name."""
+    lines, heads = text.split("\n"), []
+    for number, line in enumerate(lines, 1):
+        found = FUNCTION.match(line)
+        if found:
+            while number > 1 and lines[number - 2].strip() and lines[number - 2][-1] not in "{};":
+                number -= 1
+            heads.append((number, found[1]))
+    return heads
+
+
 def function_at(path, line):
     """The function at or before this line of a source file."""
-    with open(path, encoding="utf-8") as file:
-        for text in reversed(file.read().split("\n")[:line]):
-            found = FUNCTION.match(text)
-            if found:
-                return found[1]
-    return ""
+    return next((name for number, name in reversed(heads_of(text_of(path))) if number <= line), "")
 
 
 def parts_of(edit):
@@ -86,8 +94,7 @@ def changed_functions(edit, crate_folder):
 
 def function_span(text, line):
     """The lines from the function at or before this line to the next one, or none if there is no function."""
-    lines = text.split("\n")
-    heads = [number for number, each in enumerate(lines, 1) if FUNCTION.match(each)] + [len(lines) + 1]
+    heads = [number for number, _ in heads_of(text)] + [text.count("\n") + 2]
     begun = [number for number in heads[:-1] if number <= line]
     return (begun[-1], heads[len(begun)]) if begun else None
 
