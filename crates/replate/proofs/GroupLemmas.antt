@@ -1,12 +1,14 @@
 -- What holds of the groups of a plan by their index: two groups of one place have the same pages and inks.
 use Rattle.std.proofs.Common.{◌≡◌, ℕ, ◌<◌, length, ap, sym, subst, ◌∙◌}
-use Rattle.std.specs.Prelude.{IsTrue, ◌||◌}
+use Rattle.std.specs.Prelude.{IsTrue, Some, slice_get, ◌||◌}
 use Rattle.std.proofs.lemmas.List.Elements.{All-get_or}
+use Rattle.std.proofs.lemmas.Option.{get_or_from_slice_get}
 use Rattle.plan_json.specs.Data.{PlanData}
 use Rattle.plan_json.specs.Plan.{IsPlan}
 use Rattle.plan_rows.specs.declared.group.Group.{Group}
 use Rattle.plan_rows.specs.Inks.{has_site, inks_of}
 use Rattle.plan_rows.specs.Groups.{groups_of, page_colour, page_spot, pages_at}
+use Rattle.plan_rows.specs.Rows.{RowPlanData, rows_of}
 use Rattle.plan_rows.proofs.GroupLemmas.{InPlan, groups_in_plan, inks_by}
 use Rattle.replate.specs.Plates.{group_at}
 use Rattle.replate.specs.Standing.{IsOfPlan, StandsFor}
@@ -19,6 +21,16 @@ pub group_of_plan : (plan : PlanData) (index : ℕ) → IsPlan plan → index < 
 group_of_plan plan index is within =
     let of = group_in_plan plan index is within in
     record { section = of.section; pair = of.pair; left = of.left; right = of.right }
+
+-- the group with an index in the plan's rows
+pub group_is : (plan : PlanData) (rows : RowPlanData) (index : ℕ) (group : Group) → rows ≡ rows_of plan → slice_get rows.groups index ≡ Some group
+    → group ≡ group_at plan index
+group_is plan rows index group are is =
+    sym (get_or_from_slice_get (groups_of plan) index group _ (ap {A = RowPlanData} (λ r. slice_get r.groups index) (sym are) ∙ is))
+
+-- the number of groups in the plan's rows
+pub count_is : (plan : PlanData) (rows : RowPlanData) (count : ℕ) → rows ≡ rows_of plan → count ≡ length rows.groups → count ≡ length (groups_of plan)
+count_is plan rows count are is = is ∙ ap {A = RowPlanData} (λ r. length r.groups) are
 
 -- two groups of one section, pair and site have the same pages
 pub record SamePages (a b : Group) : Type 0 where

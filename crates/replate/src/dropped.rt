@@ -9,7 +9,7 @@ ghost use Rattle.replate.specs.Plates.{group_at, ink_plates, plates_in, plates_o
 ghost use Rattle.replate.specs.Standing.{StandsFor};
 
 use crate::alike::same_edition;
-use crate::standing::{counterpart, group_count, group_with};
+use crate::standing::{counterpart, group_with};
 use crate::{Inputs, OldPlate};
 use pr_base::NoMemory;
 use std::alloc::Global;
@@ -42,7 +42,7 @@ fn add_site(
     ensures { OnOk result (plates.new.items ≡ plates.old.items
         ++ filter (is_left_out before.now.plan after.now.plan) (plates_of before.now.plan site)) }
 {
-    for index in 0..group_count(before) {
+    for index in 0..before.rows().group_count() {
         add_group(plates, before, after, site, index)?;
     }
     Ok(())

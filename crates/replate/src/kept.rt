@@ -12,7 +12,7 @@ ghost use Rattle.replate.specs.Standing.{AreAllKept, AreKept, IsOfPlan, SamePage
 use crate::Inputs;
 use crate::alike::same_page;
 use crate::classes::Classes;
-use crate::standing::{counterpart, group_count, group_with};
+use crate::standing::{counterpart, group_with};
 use plan_json::Page;
 use plan_rows::Group;
 use pr_base::{NoMemory, SITES};
@@ -47,7 +47,7 @@ pub(crate) fn kept_groups(
         classes,
     };
     let mut kept = Vec::new(alloc);
-    for index in 0..group_count(after) {
+    for index in 0..after.rows().group_count() {
         let group = group_with(after, index);
         let row = kept_sites(&jobs, group, sites);
         kept.push(row)?;

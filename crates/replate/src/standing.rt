@@ -52,14 +52,7 @@ pub(crate) fn group_with<'a>(job: &Inputs<'a>, index: usize) -> &'a Group
     let plan = job.plan();
     let sites = plan.site_count();
     prove!(sites <= SITES);
-    &job.rows().groups()[index]
-}
-
-/// Returns the number of groups of a job's plan.
-pub(crate) fn group_count(job: &Inputs<'_>) -> usize
-    ensures { result ≡ length (groups_of job.now.plan) }
-{
-    job.rows().groups().len()
+    job.rows().group(index)
 }
 
 /// Returns the group of a section, a pair and a site.

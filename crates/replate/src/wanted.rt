@@ -9,7 +9,7 @@ ghost use Rattle.replate.specs.Plates.{group_at, ink_plates, plates_in};
 ghost use Rattle.replate.specs.Remade.{is_picked, picked_bits};
 ghost use Rattle.replate.specs.Wanted.{AreWanted, made_for, some_made};
 
-use crate::standing::{group_count, group_with};
+use crate::standing::group_with;
 use crate::{Inputs, Picks};
 use plan_rows::Group;
 use pr_base::{INKS, Ink, NoMemory, SITES};
@@ -31,7 +31,7 @@ pub(crate) fn wanted_of(
     let sites = plan.site_count();
     prove!(site < sites);
     let mut bits = Vec::new(alloc);
-    for index in 0..group_count(after) {
+    for index in 0..after.rows().group_count() {
         add_group(&mut bits, after, picks, site, index)?;
     }
     Ok(bits)
@@ -89,7 +89,7 @@ pub fn wanted_inks(
         AreWanted picks.now after.now.plan (length (groups_of after.now.plan)) flags.items) }
 {
     let mut flags = Vec::new(alloc);
-    for index in 0..group_count(after) {
+    for index in 0..after.rows().group_count() {
         let group = group_with(after, index);
         flags.push(group_flags(group, picks, index))?;
     }
