@@ -1,5 +1,5 @@
 -- Proof obligations of a command, from which the clauses of `plate_main` follow for all commands at once.
-use Rattle.std.proofs.Common.{◌≡◌, ◌⊎◌, ℕ, ◌<◌, ◌≤◌, List, length, map, Bool, true, false, if◌then◌else◌, Some, None, option_map, refl, ap, ◌∙◌, inl, inr, arith}
+use Rattle.std.proofs.Common.{◌≡◌, ◌⊎◌, ℕ, ◌<◌, List, length, map, Bool, true, false, if◌then◌else◌, Some, None, option_map, refl, ap, ◌∙◌, inl, inr, arith}
 use Rattle.std.specs.Prelude.{slice_get}
 use Rattle.std.proofs.lemmas.Option.{slice_get-map, slice_get_cases}
 use Rattle.pr_base.specs.Count.{Rose}

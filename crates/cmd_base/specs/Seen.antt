@@ -1,5 +1,5 @@
 -- What a call of `plate_main` observed of its shelf, its racks and its sinks: their state before and after.
-use Rattle.std.specs.Prelude.{ℕ, ◌≡◌, ◌⊎◌, List, All, Option, Some, slice_get}
+use Rattle.std.specs.Prelude.{ℕ, ◌≡◌, ◌≤◌, ◌⊎◌, List, All, length, Option, Some, slice_get}
 use Rattle.pr_base.specs.Count.{Rose, count_after}
 use Rattle.pr_ports.specs.declared.shelf.Shelf as shelf
 use Rattle.pr_ports.specs.declared.sink.Sink as sink
@@ -89,3 +89,8 @@ pub record RackFailed {R : Type 0} (g : rack.Ghosts R) (racks racks' : List R) :
 -- no rack has a begun slot
 abbrev pub AreIdle : {R : Type 0} → rack.Ghosts R → List R → Type 0
 AreIdle g racks = All (λ rack. g.begun rack ≡ none_begun) racks
+
+-- a command may store plates on these racks: each site of a plan has one, and no rack has a begun slot
+pub record AreReady {R : Type 0} (g : rack.Ghosts R) (racks : List R) : Type 0 where
+  pub enough : 16 ≤ length racks
+  pub idle : AreIdle g racks

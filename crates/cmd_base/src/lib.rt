@@ -5,12 +5,14 @@
 
 mod loading;
 mod note;
+mod paths;
 mod put;
 mod refusal;
 mod status;
 
 pub use loading::load_job;
 pub use note::tell;
+pub use paths::Paths;
 pub use put::put_text;
 pub use refusal::{Refusal, Stop, Whose};
 pub use status::Status;

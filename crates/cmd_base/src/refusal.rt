@@ -6,7 +6,6 @@ ghost use Rattle.cmd_base.specs.declared.refusal.Stop.TheVariants.{Memory};
 use crate::status::Status;
 use plan_json::PlanFault;
 use pr_base::{FileFault, NoMemory, PathText};
-use std::alloc::AllocError;
 
 /// Which of two jobs a line is about: the current one, or the one made before it.
 #[derive(Clone, Copy, Debug, PartialEq, Eq)]
@@ -58,14 +57,6 @@ impl From<NoMemory> for Stop {
     ghost from_gives = { λ _ stop. stop ≡ Memory };
 
     fn from(_error: NoMemory) -> Stop {
-        Stop::Memory
-    }
-}
-
-impl From<AllocError> for Stop {
-    ghost from_gives = { λ _ stop. stop ≡ Memory };
-
-    fn from(_error: AllocError) -> Stop {
         Stop::Memory
     }
 }

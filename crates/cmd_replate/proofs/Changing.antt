@@ -1,5 +1,5 @@
 -- The outcome of making the changed plates, from the outcomes of its steps.
-use Rattle.std.proofs.Common.{◌≡◌, ◌≤◌, ◌<◌, ◌&&◌, ℕ, Bool, true, eqb, List, length, map, drop, get_or, IfOk, OnErr, Result, refl, sym, ap, subst, ◌∙◌, arith}
+use Rattle.std.proofs.Common.{◌≡◌, ◌<◌, ◌&&◌, ℕ, Bool, true, eqb, List, length, map, drop, get_or, IfOk, OnErr, Result, Ok, Err, refl, sym, ap, subst, ◌∙◌, arith}
 use Rattle.std.specs.Prelude.{All, ◌↔◌, IsTrue}
 use Rattle.std.specs.Global.{Vec}
 use Rattle.std.proofs.lemmas.Bool.{and_parts, eq-eqb, eqb-true}
@@ -21,11 +21,10 @@ use Rattle.replate.specs.Picks.{MustMake, PicksData, dropped_of, is_dropped, is_
 use Rattle.replate.specs.Plates.{IsPlateOf, PlateAt, all_plates}
 use Rattle.replate.specs.Remade.{AreRowsOf, RemadeFits, RemadePart, by_picks}
 use Rattle.replate.proofs.PlateLemmas.{some_plate}
-use Rattle.site_agent.proofs.Results.{if_err, if_ok}
 use Rattle.cmd_replate.specs.declared.change.Late.{Late}
-use Rattle.cmd_replate.specs.Change.{ArePicks, DeliversPicked, DeliversPickedPart, IsLoadedLate, IsPlaced, PrintsRemade, compared, Change}
+use Rattle.cmd_replate.specs.Change.{ArePicks, DeliversPicked, IsLoadedLate, IsPlaced, PrintsRemade, Remakes, compared, Change}
 use Rattle.cmd_replate.specs.Remade.{dropped_lines, remade_text, status_of_remade, text_with}
-use Rattle.cmd_base.specs.Seen.{ShelfSeen}
+use Rattle.cmd_base.specs.Seen.{AreReady, ShelfSeen}
 use Rattle.cmd_base.proofs.Rows.{frames_in, over_job}
 
 -- ---- dropped plates
@@ -82,28 +81,27 @@ module _ {R E : Type 0} (g : rack.Ghosts R) (change : Change) (job : JobData) (p
   others_in : drop (length job.plan.sites) racks' ≡ drop (length job.plan.sites) racks
   others_in = subst (λ (p : PlanData). drop (length p.sites) racks' ≡ drop (length p.sites) racks) same others
 
-  pub delivers_picked : 16 ≤ length racks → length racks' ≡ length racks
+  pub remakes : AreReady g racks → length racks' ≡ length racks
       → IfOk result (λ ends. RemadeFits (by_picks own (map framed_row (plate_frames job.plan job.files)) change.out picks) (all_told g racks) (all_told g racks') ends.items)
-      → IfOk result (λ ends. DeliversPicked g change job picks racks racks' ends.items)
-  delivers_picked enough kept fits =
-      if_ok result _ (λ ends. DeliversPicked g change job picks racks racks' ends.items)
-      (λ ends h. record {
-        enough = (let few = is.site_count.most in omega (arith, few, enough));
-        kept = kept;
-        fits = over_job own job (plate_frames job.plan job.files) same is refl
-            (λ plan rows. RemadeFits (by_picks plan rows change.out picks) (all_told g racks) (all_told g racks') ends.items) h;
-        others = others_in;
-      }) fits
-
-  pub delivers_part : OnErr result (RemadePart (by_picks own (map framed_row (plate_frames job.plan job.files)) change.out picks) (all_told g racks) (all_told g racks'))
-      → OnErr result (DeliversPickedPart g change job picks racks racks')
-  delivers_part part =
-      if_err result _ (DeliversPickedPart g change job picks racks racks')
-      (λ h. record {
-        part = over_job own job (plate_frames job.plan job.files) same is refl
-            (λ plan rows. RemadePart (by_picks plan rows change.out picks) (all_told g racks) (all_told g racks')) h;
-        others = others_in;
-      }) part
+      → OnErr result (RemadePart (by_picks own (map framed_row (plate_frames job.plan job.files)) change.out picks) (all_told g racks) (all_told g racks'))
+      → Remakes g change job picks racks racks' result
+  remakes ready kept = by result where
+    by : (result : Result (Vec RemadeEnd) E)
+        → IfOk result (λ ends. RemadeFits (by_picks own (map framed_row (plate_frames job.plan job.files)) change.out picks) (all_told g racks) (all_told g racks') ends.items)
+        → OnErr result (RemadePart (by_picks own (map framed_row (plate_frames job.plan job.files)) change.out picks) (all_told g racks) (all_told g racks'))
+        → Remakes g change job picks racks racks' result
+    by (Ok ends) fits part = record {
+      enough = (let few = is.site_count.most in let enough = ready.enough in omega (arith, few, enough));
+      kept = kept;
+      fits = over_job own job (plate_frames job.plan job.files) same is refl
+          (λ plan rows. RemadeFits (by_picks plan rows change.out picks) (all_told g racks) (all_told g racks') ends.items) fits;
+      others = others_in;
+    }
+    by (Err memory) fits part = record {
+      part = over_job own job (plate_frames job.plan job.files) same is refl
+          (λ plan rows. RemadePart (by_picks plan rows change.out picks) (all_told g racks) (all_told g racks')) part;
+      others = others_in;
+    }
 
 -- ---- the whole command
 

@@ -1,6 +1,7 @@
 -- The command `replate`: makes the plates of an edition that changed, and only these.
-use Rattle.std.specs.Prelude.{◌≡◌, ◌≤◌, ◌<◌, ◌↔◌, ℕ, ◌⊎◌, IsTrue, List, length, drop, Option, Result}
+use Rattle.std.specs.Prelude.{◌≡◌, ◌≤◌, ◌<◌, ◌↔◌, ℕ, ◌⊎◌, IsTrue, List, length, drop, Option, Result, Ok, Err}
 use Rattle.std.specs.Prelude.{string_bytes}
+use Rattle.std.specs.Global.{Vec}
 use Rattle.std.specs.Option.{option_or}
 use Rattle.pr_rack.specs.declared.rack.Rack.{Ghosts}
 use Rattle.pr_rack.specs.Told.{all_told}
@@ -38,9 +39,9 @@ abbrev pub change_told : coded.Change → Change
 change_told change = record {
   old_plan = change.old_plan.now;
   old_files = change.old_files.now;
-  plan = change.plan.now;
-  files = change.files.now;
-  out = change.out.now;
+  plan = change.paths.plan.now;
+  files = change.paths.files.now;
+  out = change.paths.out.now;
 }
 
 -- ---- plates to make
@@ -103,6 +104,12 @@ module _ {R : Type 0} (g : Ghosts R) where
       : Type 0 where
     pub part : RemadePart (making_of change job picks) (all_told g racks) (all_told g racks')
     pub others : drop (length job.plan.sites) racks' ≡ drop (length job.plan.sites) racks
+
+  -- the racks after the plates were made, by the result
+  abbrev pub Remakes : {Z : Type 0} → Change → JobData → PicksData → List R → List R
+      → Result (Vec RemadeEnd) Z → Type 0
+  Remakes change job picks racks racks' (Ok ends) = DeliversPicked change job picks racks racks' ends.items
+  Remakes change job picks racks racks' (Err memory) = DeliversPickedPart change job picks racks racks'
 
   -- both jobs were prepared, the racks took what the sites' ends report, and the text lists the ends and
   -- the dropped plates

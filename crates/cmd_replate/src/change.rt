@@ -1,16 +1,16 @@
 // The command `replate`: makes the plates of an edition that changed, and only these.
-ghost use Rattle.std.specs.Prelude.{◌≡◌, ◌≤◌, IfErr, IfOk, OnErr, length};
+ghost use Rattle.std.specs.Prelude.{◌≡◌, IfErr, IfOk, length};
 ghost use Rattle.plan_json.specs.Plan.{IsPlan};
 ghost use Rattle.plan_rows.specs.Groups.{groups_of};
 ghost use Rattle.press_job.specs.Rows.{plate_frames};
-ghost use Rattle.cmd_replate.specs.Change.{AnswersChange, change_told, ChangeRefused, DeliversPicked};
-ghost use Rattle.cmd_replate.specs.Change.{DeliversPickedPart, IsLate, IsLoadedLate, compared};
+ghost use Rattle.cmd_replate.specs.Change.{AnswersChange, change_told, ChangeRefused, IsLate};
+ghost use Rattle.cmd_replate.specs.Change.{IsLoadedLate, Remakes, compared};
 ghost use Rattle.cmd_base.specs.Loads.{Lengths, Loads};
-ghost use Rattle.cmd_base.specs.Seen.{AreIdle, shelf_seen, sink_seen};
+ghost use Rattle.cmd_base.specs.Seen.{AreReady, shelf_seen, sink_seen};
 ghost use Rattle.cmd_base.specs.Writes.{Writes};
 
 use crate::remade::{dropped_lines, remade_text, status_of};
-use cmd_base::{Stop, Whose, load_job, put_text};
+use cmd_base::{Paths, Stop, Whose, load_job, put_text};
 use pr_base::NoMemory;
 use pr_feed::PassingFeed;
 use pr_ports::{Shelf, Sink};
@@ -27,12 +27,8 @@ pub struct Change<'a> {
     pub old_plan: &'a str,
     /// The folder of that plan's files.
     pub old_files: &'a str,
-    /// The path of the plan.
-    pub plan: &'a str,
-    /// The folder of the plan's files.
-    pub files: &'a str,
-    /// The folder of the plates.
-    pub out: &'a str,
+    /// The paths of the edition itself.
+    pub paths: Paths<'a>,
 }
 
 /// A new job, the picks of its plates that must be made given an old job, and the lines of dropped old
@@ -53,8 +49,7 @@ pub fn print_change<T: Threads + Sync, H: Shelf, R: Rack, S: Sink>(
     racks: &mut [R],
     out: &mut S,
 ) -> Result<u8, Stop>
-    requires racks { 16 ≤ length racks.old }
-    requires idle { AreIdle R.Rack racks.old }
+    requires racks { AreReady R.Rack racks.old }
     ensures answered { AnswersChange R.Rack (change_told change.entry)
         (shelf_seen H.Shelf shelf.old shelf.new)
         racks.old racks.new (sink_seen S.Sink out.old out.new) result }
@@ -94,8 +89,9 @@ fn load_late<T: Threads + Sync, H: Shelf>(
         change.old_files,
         shelf,
     )?;
-    let job = load_job(rt, alloc, Whose::New, change.plan, change.files, shelf)?;
-    let late = compare(alloc, &before, job, change.out)?;
+    let paths = change.paths;
+    let job = load_job(rt, alloc, Whose::New, paths.plan, paths.files, shelf)?;
+    let late = compare(alloc, &before, job, paths.out)?;
     Ok(late)
 }
 
@@ -133,13 +129,10 @@ fn make_late<M: BandMaker, R: Rack>(
     racks: &mut [R],
 ) -> Result<Vec<RemadeEnd>, NoMemory>
     requires may { M.may }
-    requires racks { 16 ≤ length racks.old }
-    requires idle { AreIdle R.Rack racks.old }
+    requires racks { AreReady R.Rack racks.old }
     requires groups { length late.now.picks.kept ≡ length (groups_of late.now.job.plan) }
-    ensures delivers { IfOk result (λ ends. DeliversPicked R.Rack (change_told change.entry) late.now.job
-        late.now.picks racks.old racks.new ends.items) }
-    ensures part { OnErr result (DeliversPickedPart R.Rack (change_told change.entry) late.now.job
-        late.now.picks racks.old racks.new) }
+    ensures { Remakes R.Rack (change_told change.entry) late.now.job late.now.picks
+        racks.old racks.new result }
 {
     let flags = wanted_inks(alloc, &inputs_of(&late.job), &late.picks)?;
     let wanted = Wanted {
@@ -159,13 +152,10 @@ fn make_fed<F: PassingFeed + Drop, R: Rack>(
     racks: &mut [R],
 ) -> Result<Vec<RemadeEnd>, NoMemory>
     requires feed { F.left feed ≡ plate_frames late.now.job.plan late.now.job.files }
-    requires racks { 16 ≤ length racks.old }
-    requires idle { AreIdle R.Rack racks.old }
+    requires racks { AreReady R.Rack racks.old }
     requires groups { length late.now.picks.kept ≡ length (groups_of late.now.job.plan) }
-    ensures delivers { IfOk result (λ ends. DeliversPicked R.Rack (change_told change.entry) late.now.job
-        late.now.picks racks.old racks.new ends.items) }
-    ensures part { OnErr result (DeliversPickedPart R.Rack (change_told change.entry) late.now.job
-        late.now.picks racks.old racks.new) }
+    ensures { Remakes R.Rack (change_told change.entry) late.now.job late.now.picks
+        racks.old racks.new result }
 {
     let inputs = inputs_of(&late.job);
     let mut feed = feed;
@@ -175,7 +165,7 @@ fn make_fed<F: PassingFeed + Drop, R: Rack>(
         &mut feed,
         &inputs,
         &late.picks,
-        change.out,
+        change.paths.out,
         racks,
     )
 }

@@ -21,7 +21,7 @@ pub(crate) fn remade_text(
     plan: &Plan,
     ends: &[RemadeEnd],
     dropped: &str,
-) -> Result<String, AllocError>
+) -> Result<String, NoMemory>
     requires ends { length ends.now ≡ length plan.now.sites }
     requires few { length ends.now ≤ 16 }
     ensures { IfOk result (λ text. string_bytes text ≡ text_with plan.now.sites ends.now dropped.now) }
@@ -102,9 +102,7 @@ fn dropped_line(alloc: Global, before: &Job, out: &str, plate: OldPlate) -> Resu
     ensures { IfOk result (λ line. string_bytes line ≡ dropped_line_lem before.now.plan out.now plate) }
 {
     let plan = before.plan();
-    let rows = before.rows();
-    let groups = rows.groups();
-    let group = &groups[plate.group];
+    let group = before.rows().group(plate.group);
     let path = plate_path(alloc, plan, out, plate.site, group, plate.ink)?;
     Ok(format!(in alloc; "dropped {path}\n")?)
 }

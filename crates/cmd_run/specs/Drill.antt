@@ -3,6 +3,7 @@
 use Rattle.std.specs.Prelude.{◌≡◌, ℕ, List, ◌++◌, codes, length, map, flat_map, slice_get, None, Some}
 use Rattle.std.specs.Fmt.{decimal}
 use Rattle.std.specs.List.{range_with_len}
+use Rattle.pr_base.specs.Number.{IsWithin}
 use Rattle.pr_rack.specs.Mem.{MemState}
 use Rattle.plan_json.specs.Data.{PlanData}
 use Rattle.plan_rows.specs.Paths.{site_name}
@@ -16,6 +17,7 @@ use Rattle.drill_mem.specs.Dots.{all_dots}
 use Rattle.ring_lanes.specs.declared.source.Source.TheVariants.{Ring}
 use Rattle.site_agent.specs.Plan.{drawn_rows}
 use Rattle.ring_run.specs.Fits.{kept_rows}
+use Rattle.cmd_run.specs.declared.drill.Drill.{Drill}
 use Rattle.cmd_run.specs.Report.{report_of}
 use Rattle.cmd_base.specs.Seen.{ShelfSeen}
 use Rattle.cmd_base.specs.Task.{Rules}
@@ -47,6 +49,11 @@ abbrev pub dots_lines : PlanData → List (List ℕ) → ℕ → List ℕ
 dots_lines plan rows sites = flat_map (dots_line plan rows) (range_with_len 0 sites)
 
 -- ---- a drill
+
+-- the numbers of a drill are in their ranges
+pub record HasTurns (drill : Drill) : Type 0 where
+  pub ring : IsWithin 1 1024 drill.ring
+  pub patience : IsWithin 1 65536 drill.patience
 
 -- all plate rows of a job in order
 abbrev pub rows_in : JobData → List (List ℕ)

@@ -1,6 +1,7 @@
 -- The command `run`: the plates of all sites of an edition. A run may have further readers of its ring, and a
 -- text after its report.
 use Rattle.std.specs.Prelude.{◌≡◌, ◌≤◌, ℕ, ◌+◌, ◌⊎◌, List, [], ◌++◌, length, drop, Result, Ok, Err}
+use Rattle.pr_base.specs.Number.{IsWithin}
 use Rattle.pr_ports.specs.Sink.{Grew, GrewByPrefix}
 use Rattle.pr_rack.specs.declared.rack.Rack.{Ghosts}
 use Rattle.pr_rack.specs.Told.{all_told}
@@ -29,12 +30,17 @@ pub record Edition : Type 0 where
 -- the edition of the specification that an edition of the code stands for
 abbrev pub edition_told : coded.Edition → Edition
 edition_told edition = record {
-  plan = edition.plan.now;
-  files = edition.files.now;
-  out = edition.out.now;
+  plan = edition.paths.plan.now;
+  files = edition.paths.files.now;
+  out = edition.paths.out.now;
   ring = edition.ring;
   patience = edition.patience;
 }
+
+-- the numbers of an edition are in their ranges
+pub record HasNumbers (edition : coded.Edition) : Type 0 where
+  pub ring : IsWithin 1 1024 edition.ring
+  pub patience : IsWithin 1 65536 edition.patience
 
 -- what a run has besides its sites: the number of further readers of its ring, and the text after the report,
 -- by job

@@ -4,6 +4,7 @@ use Rattle.std.specs.Prelude.{ℕ, List, ◌++◌, Result, codes, map}
 use Rattle.std.specs.Fmt.{decimal}
 use Rattle.std.specs.List.{enumerate_from, flat_map, range_with_len}
 use Rattle.pr_base.specs.declared.ink.Ink.{Ink}
+use Rattle.pr_base.specs.Number.{IsWithin}
 use Rattle.pr_rack.specs.declared.rack.Rack.{Ghosts}
 use Rattle.plan_json.specs.Data.{PlanData}
 use Rattle.plan_rows.specs.declared.group.Group.{Group}
@@ -14,7 +15,8 @@ use Rattle.press_job.specs.Job.{JobData}
 use Rattle.press_job.specs.Rows.{plate_rows}
 use Rattle.ink_keys.specs.Counts.{CountsData, number_at}
 use Rattle.ink_keys.specs.Keys.{key_count}
-use Rattle.cmd_run.specs.Edition.{Edition, Further, makes_with, run_rules}
+use Rattle.cmd_run.specs.declared.edition.Edition as coded
+use Rattle.cmd_run.specs.Edition.{Edition, Further, HasNumbers, makes_with, run_rules}
 use Rattle.cmd_base.specs.declared.refusal.Stop.{Stop}
 use Rattle.cmd_base.specs.Seen.{ShelfSeen, SinkSeen}
 use Rattle.cmd_base.specs.Task.{Answers, Makes}
@@ -61,6 +63,11 @@ further_keys keys = record { readers = 1; told = keys_lines keys }
 
 abbrev pub keys_makes : {R : Type 0} → Ghosts R → Edition → ℕ → Makes R
 keys_makes g edition keys = makes_with g edition (further_keys keys)
+
+-- the numbers of an edition and the number of its keys are in their ranges
+pub record HasKeys (edition : coded.Edition) (keys : ℕ) : Type 0 where
+  pub numbers : HasNumbers edition
+  pub keys' : IsWithin 1 64 keys
 
 -- the contract of `keys`
 abbrev pub KeysAnswers : {R : Type 0} → Ghosts R → Edition → ℕ → ShelfSeen → List R → List R → SinkSeen

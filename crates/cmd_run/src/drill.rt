@@ -5,10 +5,9 @@ ghost use Rattle.std.specs.Cmp.Lexicographic.{pointwise};
 ghost use Rattle.std.specs.List.{IsDistinct};
 ghost use Rattle.pr_ports.specs.Mem.{files_of};
 ghost use Rattle.pr_rack.specs.Mem.{empty_slots};
-ghost use Rattle.pr_base.specs.Number.{IsWithin};
 ghost use Rattle.plan_json.specs.PlanOf.{plan_of};
 ghost use Rattle.press_job.specs.Verdict.{files_in, verdict_on_files};
-ghost use Rattle.cmd_run.specs.Drill.{HaveRun, IsDrilled, PrintsDrill, drill_job, drill_rules};
+ghost use Rattle.cmd_run.specs.Drill.{HasTurns, HaveRun, IsDrilled, PrintsDrill, drill_job, drill_rules};
 ghost use Rattle.cmd_run.specs.Drill.{finished_ends};
 ghost use Rattle.cmd_base.specs.Seen.{ShelfSeen, sink_seen};
 ghost use Rattle.cmd_base.specs.Task.{Told};
@@ -63,8 +62,7 @@ pub fn print_drill<T: Threads + Clock + Sync, S: Sink>(
     drill: Drill,
     out: &mut S,
 ) -> Result<u8, Stop>
-    requires ring { IsWithin 1 1024 drill.ring }
-    requires patience { IsWithin 1 65536 drill.patience }
+    requires numbers { HasTurns drill }
     ensures told { (shelf : ShelfSeen) → Told drill_rules (PrintsDrill drill.number drill.ring)
         shelf (sink_seen S.Sink out.old out.new) result }
     ensures writes { Writes (sink_seen S.Sink out.old out.new) result }
@@ -79,8 +77,7 @@ fn drill_text<T: Threads + Clock + Sync>(
     alloc: Global,
     drill: Drill,
 ) -> Result<String, NoMemory>
-    requires ring { IsWithin 1 1024 drill.ring }
-    requires patience { IsWithin 1 65536 drill.patience }
+    requires numbers { HasTurns drill }
     ensures { IfOk result (λ text. IsDrilled drill.number drill.ring (string_bytes text)) }
 {
     let drilled = run_drill(rt, alloc, drill)?;
@@ -108,8 +105,7 @@ pub fn run_drill<T: Threads + Clock + Sync>(
     alloc: Global,
     drill: Drill,
 ) -> Result<DrillRun, NoMemory>
-    requires ring { IsWithin 1 1024 drill.ring }
-    requires patience { IsWithin 1 65536 drill.patience }
+    requires numbers { HasTurns drill }
     ensures job { IfOk result (λ drilled. drilled.job ≡ drill_job drill.number) }
     ensures ends { IfOk result (λ drilled. drilled.ends.items ≡ finished_ends drilled.job.plan) }
     ensures racks { IfOk result (λ drilled. HaveRun drilled.job drill.ring drilled.racks.items) }
@@ -128,8 +124,7 @@ fn deliver_to<T: Threads + Clock + Sync>(
     racks: &mut [SureRack],
     drill: Drill,
 ) -> Result<Vec<SiteEnd>, NoMemory>
-    requires ring { IsWithin 1 1024 drill.ring }
-    requires patience { IsWithin 1 65536 drill.patience }
+    requires numbers { HasTurns drill }
     requires count { length racks.old ≡ length job.now.plan.sites }
     requires slots { All (λ rack. rack.slots ≡ empty_slots) racks.old }
     requires files { All (λ rack. rack.files ≡ []) racks.old }

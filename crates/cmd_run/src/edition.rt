@@ -1,17 +1,16 @@
 // The command `run`: the plates of all sites of an edition.
-ghost use Rattle.std.specs.Prelude.{◌≡◌, ◌≤◌, length};
-ghost use Rattle.pr_base.specs.Number.{IsWithin};
-ghost use Rattle.cmd_run.specs.Edition.{edition_told, Delivered, none_further, run_makes, run_rules};
+ghost use Rattle.std.specs.Prelude.{◌≡◌};
+ghost use Rattle.cmd_run.specs.Edition.{edition_told, Delivered, HasNumbers, none_further, run_makes, run_rules};
 ghost use Rattle.cmd_run.specs.Report.{is_finished as is_finished_lem, status_of_ends};
 ghost use Rattle.cmd_base.specs.Loads.{Lengths, Loads};
-ghost use Rattle.cmd_base.specs.Seen.{AreIdle, shelf_seen, sink_seen};
+ghost use Rattle.cmd_base.specs.Seen.{AreReady, shelf_seen, sink_seen};
 ghost use Rattle.cmd_base.specs.Status.{number_of};
 ghost use Rattle.cmd_base.specs.Task.{Answers};
 ghost use Rattle.cmd_base.specs.Writes.{Writes};
 
 use crate::job_run::run_job;
 use crate::report::report;
-use cmd_base::{Status, Stop, Whose, load_job, put_text};
+use cmd_base::{Paths, Status, Stop, Whose, load_job, put_text};
 use pr_ports::{Shelf, Sink};
 use pr_rack::Rack;
 use press_feed::Job;
@@ -23,12 +22,7 @@ use std::time::Clock;
 /// An edition to be run.
 #[derive(Clone, Copy)]
 pub struct Edition<'a> {
-    /// The path of the plan.
-    pub plan: &'a str,
-    /// The folder of the plan's files.
-    pub files: &'a str,
-    /// The folder of the plates.
-    pub out: &'a str,
+    pub paths: Paths<'a>,
     /// The number of places of the ring, 1 to 1024.
     pub ring: u32,
     /// The number of times that a turn may look for a row without finding one, 1 to 65,536.
@@ -44,10 +38,8 @@ pub fn run_edition<T: Threads + Clock + Sync, H: Shelf, R: Rack + Send, S: Sink>
     racks: &mut [R],
     out: &mut S,
 ) -> Result<u8, Stop>
-    requires racks { 16 ≤ length racks.old }
-    requires idle { AreIdle R.Rack racks.old }
-    requires ring { IsWithin 1 1024 edition.ring }
-    requires patience { IsWithin 1 65536 edition.patience }
+    requires racks { AreReady R.Rack racks.old }
+    requires numbers { HasNumbers edition }
     ensures answered { Answers
         (run_rules (edition_told edition.entry)) (run_makes R.Rack (edition_told edition.entry))
         (shelf_seen H.Shelf shelf.old shelf.new)
@@ -57,7 +49,8 @@ pub fn run_edition<T: Threads + Clock + Sync, H: Shelf, R: Rack + Send, S: Sink>
     ensures lengths { Lengths (shelf_seen H.Shelf shelf.old shelf.new) result }
     ensures writes { Writes (sink_seen S.Sink out.old out.new) result }
 {
-    match load_job(rt, alloc, Whose::New, edition.plan, edition.files, shelf) {
+    let paths = edition.paths;
+    match load_job(rt, alloc, Whose::New, paths.plan, paths.files, shelf) {
         Ok(job) => deliver(rt, alloc, edition, &job, racks, out),
         Err(stop) => Err(stop),
     }
@@ -72,10 +65,8 @@ fn deliver<T: Threads + Clock + Sync, R: Rack + Send, S: Sink>(
     racks: &mut [R],
     out: &mut S,
 ) -> Result<u8, Stop>
-    requires racks { 16 ≤ length racks.old }
-    requires idle { AreIdle R.Rack racks.old }
-    requires ring { IsWithin 1 1024 edition.ring }
-    requires patience { IsWithin 1 65536 edition.patience }
+    requires racks { AreReady R.Rack racks.old }
+    requires numbers { HasNumbers edition }
     ensures delivered { Delivered R.Rack (edition_told edition.entry) none_further job.now
         racks.old racks.new (sink_seen S.Sink out.old out.new) result }
     ensures writes { Writes (sink_seen S.Sink out.old out.new) result }
@@ -88,7 +79,7 @@ fn deliver<T: Threads + Clock + Sync, R: Rack + Send, S: Sink>(
         alloc,
         job,
         racks,
-        edition.out,
+        edition.paths.out,
         edition.ring,
         edition.patience,
     )?;

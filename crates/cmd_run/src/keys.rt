@@ -1,17 +1,16 @@
 // The command `keys`: a run that also counts the ink keys of all plates, and prints the counts after its
 // report.
-ghost use Rattle.std.specs.Prelude.{◌≡◌, ◌<◌, ◌≤◌, ◌++◌, All, IfOk, OnOk, length, string_bytes};
-ghost use Rattle.pr_base.specs.Number.{IsWithin};
+ghost use Rattle.std.specs.Prelude.{◌≡◌, ◌<◌, ◌++◌, All, IfOk, OnOk, length, string_bytes};
 ghost use Rattle.plan_rows.specs.Groups.{groups_of};
 ghost use Rattle.press_job.specs.Rows.{plate_rows};
 ghost use Rattle.ink_keys.specs.Plates.{AreKeyCounts};
 ghost use Rattle.cmd_run.specs.Edition.{edition_told, Delivered};
-ghost use Rattle.cmd_run.specs.Keys.{KeysAnswers, further_keys, group_lines, key_line as key_line_lem};
+ghost use Rattle.cmd_run.specs.Keys.{HasKeys, KeysAnswers, further_keys, group_lines, key_line as key_line_lem};
 ghost use Rattle.cmd_run.specs.Keys.{keys_lines, lines_with, numbers_at, numbers_for};
 ghost use Rattle.cmd_run.specs.Keys.{plate_line as plate_line_lem};
 ghost use Rattle.cmd_run.specs.Report.{report_of};
 ghost use Rattle.cmd_base.specs.Loads.{Lengths, Loads};
-ghost use Rattle.cmd_base.specs.Seen.{AreIdle, shelf_seen, sink_seen};
+ghost use Rattle.cmd_base.specs.Seen.{AreReady, shelf_seen, sink_seen};
 ghost use Rattle.cmd_base.specs.Writes.{Writes};
 
 use crate::edition::{Edition, status_of};
@@ -21,7 +20,7 @@ use cmd_base::{Stop, Whose, load_job, put_text};
 use ink_keys::Counts;
 use plan_json::Plan;
 use plan_rows::{Group, plate_name};
-use pr_base::Ink;
+use pr_base::{Ink, NoMemory};
 use pr_ports::{Shelf, Sink};
 use pr_rack::Rack;
 use press_feed::Job;
@@ -41,11 +40,8 @@ pub fn run_with_keys<T: Threads + Clock + Sync, H: Shelf, R: Rack + Send, S: Sin
     racks: &mut [R],
     out: &mut S,
 ) -> Result<u8, Stop>
-    requires racks { 16 ≤ length racks.old }
-    requires idle { AreIdle R.Rack racks.old }
-    requires keys { IsWithin 1 64 keys }
-    requires ring { IsWithin 1 1024 edition.ring }
-    requires patience { IsWithin 1 65536 edition.patience }
+    requires racks { AreReady R.Rack racks.old }
+    requires numbers { HasKeys edition keys }
     ensures answered { KeysAnswers R.Rack (edition_told edition.entry) keys
         (shelf_seen H.Shelf shelf.old shelf.new)
         racks.old racks.new (sink_seen S.Sink out.old out.new) result }
@@ -54,7 +50,8 @@ pub fn run_with_keys<T: Threads + Clock + Sync, H: Shelf, R: Rack + Send, S: Sin
     ensures lengths { Lengths (shelf_seen H.Shelf shelf.old shelf.new) result }
     ensures writes { Writes (sink_seen S.Sink out.old out.new) result }
 {
-    match load_job(rt, alloc, Whose::New, edition.plan, edition.files, shelf) {
+    let paths = edition.paths;
+    match load_job(rt, alloc, Whose::New, paths.plan, paths.files, shelf) {
         Ok(job) => deliver(rt, alloc, edition, keys, &job, racks, out),
         Err(stop) => Err(stop),
     }
@@ -70,11 +67,8 @@ fn deliver<T: Threads + Clock + Sync, R: Rack + Send, S: Sink>(
     racks: &mut [R],
     out: &mut S,
 ) -> Result<u8, Stop>
-    requires racks { 16 ≤ length racks.old }
-    requires idle { AreIdle R.Rack racks.old }
-    requires keys { IsWithin 1 64 keys }
-    requires ring { IsWithin 1 1024 edition.ring }
-    requires patience { IsWithin 1 65536 edition.patience }
+    requires racks { AreReady R.Rack racks.old }
+    requires numbers { HasKeys edition keys }
     ensures delivered { Delivered R.Rack (edition_told edition.entry) (further_keys keys) job.now
         racks.old racks.new (sink_seen S.Sink out.old out.new) result }
     ensures writes { Writes (sink_seen S.Sink out.old out.new) result }
@@ -87,7 +81,7 @@ fn deliver<T: Threads + Clock + Sync, R: Rack + Send, S: Sink>(
         alloc,
         job,
         racks,
-        edition.out,
+        edition.paths.out,
         keys,
         edition.ring,
         edition.patience,
@@ -104,7 +98,7 @@ fn counted_text(
     job: &Job,
     ends: &[SiteEnd],
     counts: &Counts,
-) -> Result<String, AllocError>
+) -> Result<String, NoMemory>
     requires ends { length ends.now ≡ length job.now.plan.sites }
     requires groups { counts.now.groups ≡ length (groups_of job.now.plan) }
     requires counts { AreKeyCounts job.now.plan (plate_rows job.now.plan job.now.files) counts.now }

@@ -5,6 +5,7 @@ ghost use Rattle.cmd_run.specs.Report.{call_word as call_word_lem, report_of, si
 ghost use Rattle.cmd_run.specs.Report.{total_line as total_line_lem};
 
 use plan_json::{Plan, PlanSite};
+use pr_base::NoMemory;
 use pr_rack::RackCall;
 use ring_run::SiteEnd;
 use std::alloc::{AllocError, Global};
@@ -16,7 +17,7 @@ pub(crate) fn report(
     plan: &Plan,
     rows: u64,
     ends: &[SiteEnd],
-) -> Result<String, AllocError>
+) -> Result<String, NoMemory>
     requires ends { length ends.now ≡ length plan.now.sites }
     requires rows { rows ≡ length (row_places plan.now) }
     ensures { IfOk result (λ text. string_bytes text ≡ report_of plan.now ends.now) }

@@ -19,7 +19,7 @@ use Rattle.cmd_base.specs.Job.{HasMissed, IsPrepared, JobMeets, verdict_on_job}
 use Rattle.cmd_base.specs.Loads.{NoneLong, UnlessLong as UnlessRefused}
 use Rattle.cmd_base.specs.Seen.{Files, ShelfSeen}
 use Rattle.cmd_base.specs.Task.{Rules}
-use Rattle.cmd_verify.specs.declared.check.Asked as coded
+use Rattle.cmd_base.specs.declared.paths.Paths.{Paths}
 
 -- an edition whose plates are verified: its plan, the folder of its files, and the folder of its plates
 pub record Asked : Type 0 where
@@ -28,8 +28,8 @@ pub record Asked : Type 0 where
   pub out : List ℕ
 
 -- the texts of an edition whose plates are verified
-abbrev pub asked_told : coded.Asked → Asked
-asked_told asked = record { plan = asked.plan.now; files = asked.files.now; out = asked.out.now }
+abbrev pub asked_told : Paths → Asked
+asked_told paths = record { plan = paths.plan.now; files = paths.files.now; out = paths.out.now }
 
 -- ---- the result
 

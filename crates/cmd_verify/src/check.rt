@@ -12,30 +12,19 @@ ghost use Rattle.cmd_base.specs.Status.{number_of};
 ghost use Rattle.cmd_base.specs.Task.{Told};
 ghost use Rattle.cmd_base.specs.Writes.{Writes};
 
-use cmd_base::{Refusal, Status, Stop, Whose, load_job, put_text};
+use cmd_base::{Paths, Refusal, Status, Stop, Whose, load_job, put_text};
 use plate_verify::{Checked, VerifyFault, verify};
-use pr_base::{PathText, RowFeed};
+use pr_base::{NoMemory, PathText, RowFeed};
 use pr_ports::{Shelf, Sink};
 use press_feed::{BandMaker, ByThreads, Job, WideFeed};
-use std::alloc::{AllocError, Global};
+use std::alloc::Global;
 use std::thread::Threads;
-
-/// An edition whose plates are verified.
-#[derive(Clone, Copy)]
-pub struct Asked<'a> {
-    /// The path of the plan.
-    pub plan: &'a str,
-    /// The folder of the plan's files.
-    pub files: &'a str,
-    /// The folder of the plates.
-    pub out: &'a str,
-}
 
 /// Verifies the plates of an edition on a shelf, prints the result and returns its exit status.
 pub fn print_check<T: Threads + Sync, H: Shelf, S: Sink>(
     rt: &T,
     alloc: Global,
-    asked: Asked<'_>,
+    asked: Paths<'_>,
     shelf: &mut H,
     out: &mut S,
 ) -> Result<u8, Stop>
@@ -92,7 +81,7 @@ fn verify_fed<F: RowFeed, H: Shelf>(
 }
 
 /// Formats the line of a result.
-fn line_of(alloc: Global, sites: usize, checked: &Checked) -> Result<String, AllocError>
+fn line_of(alloc: Global, sites: usize, checked: &Checked) -> Result<String, NoMemory>
     ensures { IfOk result (λ line. string_bytes line ≡ found_line sites (found_of checked.now)) }
 {
     match checked {
@@ -107,29 +96,29 @@ fn line_of(alloc: Global, sites: usize, checked: &Checked) -> Result<String, All
             at,
             row: None,
         } => byte_line(alloc, path, *at),
-        Checked::Long { path } => format!(in alloc; "differs {path} long\n"),
+        Checked::Long { path } => Ok(format!(in alloc; "differs {path} long\n")?),
     }
 }
 
 /// Formats the line that reports that all plates match.
-fn same_line(alloc: Global, plates: u32, sites: usize) -> Result<String, AllocError>
+fn same_line(alloc: Global, plates: u32, sites: usize) -> Result<String, NoMemory>
     ensures { IfOk result (λ line. string_bytes line ≡ same_line_lem plates sites) }
 {
-    format!(in alloc; "same plates {plates} sites {sites}\n")
+    Ok(format!(in alloc; "same plates {plates} sites {sites}\n")?)
 }
 
 /// Formats the line of a plate that differs in a packed row.
-fn row_line(alloc: Global, path: &PathText, at: u64, row: u32) -> Result<String, AllocError>
+fn row_line(alloc: Global, path: &PathText, at: u64, row: u32) -> Result<String, NoMemory>
     ensures { IfOk result (λ line. string_bytes line ≡ row_line_lem path.now at row) }
 {
-    format!(in alloc; "differs {path} byte {at} row {row}\n")
+    Ok(format!(in alloc; "differs {path} byte {at} row {row}\n")?)
 }
 
 /// Formats the line of a plate that differs outside its rows.
-fn byte_line(alloc: Global, path: &PathText, at: u64) -> Result<String, AllocError>
+fn byte_line(alloc: Global, path: &PathText, at: u64) -> Result<String, NoMemory>
     ensures { IfOk result (λ line. string_bytes line ≡ byte_line_lem path.now at) }
 {
-    format!(in alloc; "differs {path} byte {at}\n")
+    Ok(format!(in alloc; "differs {path} byte {at}\n")?)
 }
 
 /// Returns the exit status of a result.

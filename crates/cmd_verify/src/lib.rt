@@ -5,4 +5,4 @@
 
 mod check;
 
-pub use check::{Asked, print_check};
+pub use check::print_check;

@@ -1,33 +1,24 @@
 -- How the code's types correspond to the specification's. These are the contracts of private functions.
 use Rattle.std.specs.Prelude.{◌≡◌, Option, Some, None}
-use Rattle.pr_base.specs.Number.{IsWithin}
 use Rattle.plate_room.specs.Command as line
 use Rattle.plate_room.specs.declared.command.Command as asked_type
 use Rattle.plate_room.specs.declared.command.Command.TheVariants as asked
-use Rattle.cmd_verify.specs.declared.check.Asked.{Asked}
+use Rattle.cmd_base.specs.declared.paths.Paths.{Paths}
 use Rattle.cmd_replate.specs.declared.change.Change.{Change}
 use Rattle.cmd_run.specs.declared.edition.Edition.{Edition}
 use Rattle.cmd_run.specs.declared.drill.Drill.{Drill}
-use Rattle.cmd_run.specs.Edition.{Edition as EditionMeant, edition_told}
+use Rattle.cmd_run.specs.Edition.{Edition as EditionMeant, HasNumbers, edition_told}
+use Rattle.cmd_run.specs.Keys.{HasKeys}
+use Rattle.cmd_run.specs.Drill.{HasTurns}
 use Rattle.cmd_verify.specs.Check.{Asked as AskedMeant, asked_told}
 use Rattle.cmd_replate.specs.Change.{Change as ChangeMeant, change_told}
-
--- the numbers of an edition are in their ranges
-pub record HasNumbers (edition : Edition) : Type 0 where
-  pub ring : IsWithin 1 1024 edition.ring
-  pub patience : IsWithin 1 65536 edition.patience
-
--- the numbers of a drill are in their ranges
-pub record HasTurns (drill : Drill) : Type 0 where
-  pub ring : IsWithin 1 1024 drill.ring
-  pub patience : IsWithin 1 65536 drill.patience
 
 -- the numbers of a command are in their ranges
 abbrev pub IfRun : Option asked_type.Command → Type 0
 IfRun None = Unit {0}
 IfRun (Some (asked.One file)) = Unit {0}
 IfRun (Some (asked.Run edition)) = HasNumbers edition
-IfRun (Some (asked.Keys edition keys)) = HasNumbers edition × IsWithin 1 64 keys
+IfRun (Some (asked.Keys edition keys)) = HasKeys edition keys
 IfRun (Some (asked.Drill drill)) = HasTurns drill
 IfRun (Some (asked.Verify asked')) = Unit {0}
 IfRun (Some (asked.Replate change)) = Unit {0}
@@ -57,7 +48,7 @@ IsDrill None meant = meant ≡ None
 IsDrill (Some drill) meant = meant ≡ Some (drill_told drill)
 
 -- the code's verification is this one of the specification
-abbrev pub IsAskedFor : Option Asked → Option AskedMeant → Type 0
+abbrev pub IsAskedFor : Option Paths → Option AskedMeant → Type 0
 IsAskedFor None meant = meant ≡ None
 IsAskedFor (Some asked') meant = meant ≡ Some (asked_told asked')
 

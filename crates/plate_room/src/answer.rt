@@ -1,9 +1,9 @@
 // Running a command.
 ghost use Rattle.plate_room.specs.Command.{AsksDrill, command_of as meant, words_of};
 ghost use Rattle.plate_room.specs.Ending.{Answered, seen_of};
-ghost use Rattle.cmd_base.specs.Seen.{AreIdle, shelf_seen, sink_seen};
+ghost use Rattle.cmd_base.specs.Seen.{AreReady, shelf_seen, sink_seen};
 ghost use Rattle.cmd_base.specs.Writes.{Writes};
-ghost use Rattle.std.specs.Prelude.{◌≡◌, ◌≤◌, None, length};
+ghost use Rattle.std.specs.Prelude.{◌≡◌, None};
 
 use crate::command::{Command, command_of};
 use cmd_base::{Refusal, Stop};
@@ -26,8 +26,7 @@ pub(crate) fn answer<T: Threads + Clock + Sync, H: Shelf, R: Rack + Send, S: Sin
     racks: &mut [R],
     out: &mut S,
 ) -> Result<u8, Stop>
-    requires racks { 16 ≤ length racks.old }
-    requires idle { AreIdle R.Rack racks.old }
+    requires { AreReady R.Rack racks.old }
     ensures answered { Answered R.Rack
         (seen_of (words_of words.now) (shelf_seen H.Shelf shelf.old shelf.new)
         racks.old racks.new (sink_seen S.Sink out.old out.new)) result }

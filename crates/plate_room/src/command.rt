@@ -6,13 +6,14 @@ ghost use Rattle.plate_room.specs.Command.{command_of as meant, drill_of as dril
 ghost use Rattle.plate_room.specs.Command.{edition_in as edition_in_meant, edition_of as edition_meant};
 ghost use Rattle.plate_room.specs.Command.{keys_of as keys_meant, numbers_of as numbers_meant};
 ghost use Rattle.plate_room.specs.Command.{one_of as one_meant, words_of};
-ghost use Rattle.plate_room.specs.Answer.{HasNumbers, HasTurns, IfRun, IsAskedFor, IsChange, IsCommand};
-ghost use Rattle.plate_room.specs.Answer.{IsDrill, IsEdition};
+ghost use Rattle.plate_room.specs.Answer.{IfRun, IsAskedFor, IsChange, IsCommand, IsDrill, IsEdition};
+ghost use Rattle.cmd_run.specs.Drill.{HasTurns};
+ghost use Rattle.cmd_run.specs.Edition.{HasNumbers};
 
 use crate::number::number_within;
+use cmd_base::Paths;
 use cmd_replate::Change;
 use cmd_run::{Drill, Edition};
-use cmd_verify::Asked;
 
 /// The command that the arguments ask for.
 #[derive(Clone, Copy)]
@@ -27,7 +28,7 @@ pub(crate) enum Command<'a> {
     /// `drill N [RING [PATIENCE]]`: the report of a generated job, and the number of dots on its plates.
     Drill(Drill),
     /// `verify PLAN FILES OUT`: whether the stored plates are those of an edition.
-    Verify(Asked<'a>),
+    Verify(Paths<'a>),
     /// `replate OLDPLAN OLDFILES PLAN FILES OUT`: the plates of an edition that changed.
     Replate(Change<'a>),
 }
@@ -127,21 +128,19 @@ fn edition_in<'a>(
     }
     let (ring, patience) = numbers_of(numbers)?;
     Some(Edition {
-        plan,
-        files,
-        out,
+        paths: Paths { plan, files, out },
         ring,
         patience,
     })
 }
 
 /// Parses the arguments after `verify`.
-fn asked_of(words: &[String]) -> Option<Asked<'_>>
+fn asked_of(words: &[String]) -> Option<Paths<'_>>
     ensures { IsAskedFor result (asked_meant (words_of words.now)) }
 {
     match words {
         [plan, files, out] if !plan.is_empty() && !files.is_empty() && !out.is_empty() => {
-            Some(Asked {
+            Some(Paths {
                 plan: plan.as_str(),
                 files: files.as_str(),
                 out: out.as_str(),
@@ -161,13 +160,11 @@ fn change_of(words: &[String]) -> Option<Change<'_>>
     if old_plan.is_empty() || old_files.is_empty() {
         return None;
     }
-    let asked = asked_of(words)?;
+    let paths = asked_of(words)?;
     Some(Change {
         old_plan: old_plan.as_str(),
         old_files: old_files.as_str(),
-        plan: asked.plan,
-        files: asked.files,
-        out: asked.out,
+        paths,
     })
 }
 

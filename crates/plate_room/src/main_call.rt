@@ -6,7 +6,7 @@ ghost use Rattle.plate_room.specs.End.{FailsByOut, IsComplete, IsToldThere, IsUn
 ghost use Rattle.plate_room.specs.End.{TellsOfMemory, TellsPart, TellsVerdict};
 ghost use Rattle.plate_room.specs.Ending.{Ending, seen_of};
 ghost use Rattle.cmd_base.specs.Loads.{AllLoaded};
-ghost use Rattle.cmd_base.specs.Seen.{AreIdle, FailsOnce, Files, RackFailed, shelf_seen};
+ghost use Rattle.cmd_base.specs.Seen.{AreIdle, AreReady, FailsOnce, Files, RackFailed, shelf_seen};
 ghost use Rattle.cmd_base.specs.Seen.{sink_seen};
 ghost use Rattle.plate_room.specs.Tasks.{IsCut, IsDone, IsShort, IsUnprinted, verdict_of};
 
@@ -145,8 +145,7 @@ fn run<T: Threads + Clock + Sync, H: Shelf, R: Rack + Send, S: Sink, E: Sink>(
     out: &mut S,
     note: &mut E,
 ) -> u8
-    requires racks { 16 ≤ length racks.old }
-    requires idle { AreIdle R.Rack racks.old }
+    requires { AreReady R.Rack racks.old }
     ensures ending { Ending R.Rack
         (seen_of (words_of words.now) (shelf_seen H.Shelf shelf.old shelf.new)
         racks.old racks.new (sink_seen S.Sink out.old out.new))

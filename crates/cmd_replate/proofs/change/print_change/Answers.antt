@@ -15,11 +15,11 @@ returns-in_err-text-clause-answered g c =
     let late = c.in_ok-late.ensures.loaded in
     let p = err_from_is_err_and c.from_residual-in_err-text.result c.from_residual-in_err-text.ensures.1 in
     rw (p.1, p.2) (inr (inl (record {
-      text = remade_text late.before.plan c.in_ok-late.late.job.plan c.args.change.out.now
+      text = remade_text late.before.plan c.in_ok-late.late.job.plan c.args.change.paths.out.now
           c.in_ok-remade.remade.items;
       status = status_of_remade c.in_ok-remade.remade.items;
       prints = prints_late g.R.Rack (change_told c.args.change) _ c.in_ok-late.late late _ _
-          c.in_ok-remade.remade.items _ _ c.in_ok-remade.ensures.delivers refl refl;
+          c.in_ok-remade.remade.items _ _ c.in_ok-remade.ensures refl refl;
       grew = (0, grew_nothing _ _ refl);
     })))
 
@@ -30,9 +30,9 @@ returns-clause-answered g c =
     put_makes (change_rules change) (change_makes g.R.Rack change) _ c.args.racks.now c.make_late.new.racks _
     c.as_bytes.result.now (number_of c.status_of.result) c.put_text.result
     (prints_late g.R.Rack change _ c.in_ok-late.late late _ _ c.in_ok-remade.remade.items _ _
-    c.in_ok-remade.ensures.delivers
+    c.in_ok-remade.ensures
     (c.as_bytes.ensures.value ∙ c.in_ok-text.ensures
-    ∙ text_is late.before.plan c.in_ok-late.late.job.plan c.plan-plan.result.now c.args.change.out.now
+    ∙ text_is late.before.plan c.in_ok-late.late.job.plan c.plan-plan.result.now c.args.change.paths.out.now
     c.as_slice-ends.result.now c.in_ok-remade.remade.items c.as_str-dropped.result.now
     c.plan-plan.ensures.plan c.as_slice-ends.ensures.value
     (c.as_str-dropped.ensures.value ∙ late.is.dropped))

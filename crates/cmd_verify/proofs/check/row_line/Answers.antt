@@ -1,9 +1,5 @@
-use Rattle.std.proofs.Common.{◌≡◌, ◌∙◌, append_assoc, string_bytes}
-use Rattle.cmd_verify.specs.Check.{row_line}
-use Rattle.plan_rows.proofs.PathLemmas.{if_ok}
+use Rattle.std.proofs.Common.{◌∙◌, append_assoc}
 use Rattle.cmd_verify.proofs.check.row_line.Goals as goal
 
 pub returns : goal.returns
-returns c =
-    if_ok c.format.result _ (λ line. string_bytes line ≡ row_line c.args.path.now c.args.at c.args.row) c.format.ensures.ok
-    (λ line h. h ∙ (simp append_assoc))
+returns c = c.in_ok-format.ensures.ok ∙ (simp append_assoc)
