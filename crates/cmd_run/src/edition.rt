@@ -22,6 +22,7 @@ use std::time::Clock;
 /// An edition to be run.
 #[derive(Clone, Copy)]
 pub struct Edition<'a> {
+    /// The paths of its plan, its files and its plates.
     pub paths: Paths<'a>,
     /// The number of places of the ring, 1 to 1024.
     pub ring: u32,
