@@ -111,9 +111,24 @@ pub fn run_drill<T: Threads + Clock + Sync>(
     ensures racks { IfOk result (λ drilled. HaveRun drilled.job drill.ring drilled.racks.items) }
 {
     let job = job_of(rt, alloc, drill.number)?;
-    let mut racks = empty_racks(alloc, job.plan().sites.len())?;
-    let ends = deliver_to(rt, alloc, &job, racks.as_mut_slice(), drill)?;
+    let (ends, racks) = run_in_memory(rt, alloc, &job, drill)?;
     Ok(DrillRun { job, ends, racks })
+}
+
+/// Runs a job over empty racks, and returns how each site ended, and the racks.
+fn run_in_memory<T: Threads + Clock + Sync>(
+    rt: &T,
+    alloc: Global,
+    job: &Job,
+    drill: Drill,
+) -> Result<(Vec<SiteEnd>, Vec<SureRack>), NoMemory>
+    requires numbers { HasTurns drill }
+    ensures ends { IfOk result (λ run. run.0.items ≡ finished_ends job.now.plan) }
+    ensures racks { IfOk result (λ run. HaveRun job.now drill.ring run.1.items) }
+{
+    let mut racks = empty_racks(alloc, job.plan().sites.len())?;
+    let ends = deliver_to(rt, alloc, job, racks.as_mut_slice(), drill)?;
+    Ok((ends, racks))
 }
 
 /// Runs a job over empty racks, one for each of its sites, and returns how each site ended.

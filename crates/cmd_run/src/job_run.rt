@@ -3,6 +3,7 @@ ghost use Rattle.std.specs.Prelude.{◌≡◌, ◌≤◌, IfOk, OnErr, drop, len
 ghost use Rattle.pr_rack.specs.Told.{all_told};
 ghost use Rattle.pr_base.specs.Number.{IsWithin};
 ghost use Rattle.site_agent.specs.Racks.{AreIdle, KeepCounts};
+ghost use Rattle.press_job.specs.Rows.{plate_frames};
 ghost use Rattle.ring_run.specs.Fits.{RunFits, RunPart, by_job};
 ghost use Rattle.ring_run.specs.JobRun.{JobLeaves, MayRun};
 
@@ -10,7 +11,7 @@ use ink_keys::{Counts, KeyReader};
 use pr_base::NoMemory;
 use pr_rack::Rack;
 use press_feed::Feed;
-use press_job::Job;
+use press_job::{BandFeed, Job};
 use ring_run::{Outcome, Run, run_fed};
 use std::alloc::Global;
 use std::thread::Threads;
@@ -61,8 +62,7 @@ pub fn run_job<T: Threads + Clock + Sync, R: Rack + Send>(
     Ok(outcome)
 }
 
-/// Runs a job as `run_job` does, with a key reader that counts the rows, if there is one. This is the only
-/// function that drops a feed, because the prover checks what a function drops once for each of its paths.
+/// Runs a job as `run_job` does, with a key reader that counts the rows, if there is one.
 pub(crate) fn run_all<T: Threads + Clock + Sync, R: Rack + Send>(
     rt: &T,
     run: &Run<'_>,
@@ -74,6 +74,25 @@ pub(crate) fn run_all<T: Threads + Clock + Sync, R: Rack + Send>(
     requires plan { run.now.plan.now ≡ job.now.plan }
     ensures leaves { JobLeaves R.Rack job.now run.now keys.entry racks.old racks.new result }
 {
-    let mut feed = Feed::open_wide(rt, run.alloc, job)?;
+    let feed = Feed::open_wide(rt, run.alloc, job)?;
+    run_owned(rt, run, job, feed, racks, keys)
+}
+
+/// Does the same with a feed from which no row has been taken yet, and drops the feed: a function that is
+/// generic over it is proved without the parts of one.
+fn run_owned<T: Threads + Clock + Sync, F: BandFeed + Send + Drop, R: Rack + Send>(
+    rt: &T,
+    run: &Run<'_>,
+    job: &Job,
+    feed: F,
+    racks: &mut [R],
+    keys: Option<KeyReader<'_>>,
+) -> Result<(Outcome, Option<Counts>), NoMemory>
+    requires may { MayRun R.Rack run.now keys racks.old }
+    requires plan { run.now.plan.now ≡ job.now.plan }
+    requires feed { F.left feed ≡ plate_frames job.now.plan job.now.files }
+    ensures leaves { JobLeaves R.Rack job.now run.now keys.entry racks.old racks.new result }
+{
+    let mut feed = feed;
     run_fed(rt, run, job, &mut feed, racks, keys)
 }

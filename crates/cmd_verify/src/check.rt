@@ -56,24 +56,26 @@ fn verify_plates<M: BandMaker, H: Shelf>(
     ensures held { H.held shelf.new ≡ H.held shelf.old }
     ensures loads { Loads (shelf_seen H.Shelf shelf.old shelf.new) result }
 {
-    let mut feed = WideFeed::open(maker, alloc, job)?;
-    verify_fed(alloc, job, &mut feed, out, shelf)
+    let feed = WideFeed::open(maker, alloc, job)?;
+    verify_fed(alloc, job, feed, out, shelf)
 }
 
-/// Does the same with a feed from which no row has been taken yet.
-fn verify_fed<F: RowFeed, H: Shelf>(
+/// Does the same with a feed from which no row has been taken yet, and drops the feed: a function that is
+/// generic over it is proved without the parts of one.
+fn verify_fed<F: RowFeed + Drop, H: Shelf>(
     alloc: Global,
     job: &Job,
-    feed: &mut F,
+    feed: F,
     out: &str,
     shelf: &mut H,
 ) -> Result<Checked, Stop>
-    requires feed { F.left feed.old ≡ plate_frames job.now.plan job.now.files }
+    requires feed { F.left feed ≡ plate_frames job.now.plan job.now.files }
     ensures verifies { Verifies job.now out.now (shelf_seen H.Shelf shelf.old shelf.new) result }
     ensures held { H.held shelf.new ≡ H.held shelf.old }
     ensures loads { Loads (shelf_seen H.Shelf shelf.old shelf.new) result }
 {
-    match verify(alloc, job.plan(), job.rows(), feed, out, shelf) {
+    let mut feed = feed;
+    match verify(alloc, job.plan(), job.rows(), &mut feed, out, shelf) {
         Ok(checked) => Ok(checked),
         Err(VerifyFault::Shelf(path)) => Err(Stop::Refused(Refusal::Shelf(path))),
         Err(VerifyFault::Memory) => Err(Stop::Memory),
