@@ -8,14 +8,14 @@ use plan_json::PlanFault;
 use pr_base::{FileFault, NoMemory, PathText};
 
 /// Which of two jobs a line is about: the current one, or the one made before it.
-#[derive(Clone, Copy, Debug, PartialEq, Eq)]
+#[derive(Clone, Copy, PartialEq, Eq)]
 pub enum Whose {
     New,
     Old,
 }
 
 /// Why a command is refused.
-#[derive(Debug, Drop)]
+#[derive(Drop)]
 pub enum Refusal {
     /// The arguments are not a command.
     Words,
@@ -44,7 +44,7 @@ impl Refusal {
 }
 
 /// Why a command did not complete.
-#[derive(Debug, Drop)]
+#[derive(Drop)]
 pub enum Stop {
     Refused(Refusal),
     /// Out of memory.

@@ -1,10 +1,11 @@
 // The command `replate`: makes the plates of an edition that changed, and only these.
-ghost use Rattle.std.specs.Prelude.{◌≡◌, IfErr, IfOk, length};
+ghost use Rattle.std.specs.Prelude.{◌≡◌, ◌≤◌, IfErr, IfOk, length, string_bytes};
 ghost use Rattle.plan_json.specs.Plan.{IsPlan};
 ghost use Rattle.plan_rows.specs.Groups.{groups_of};
 ghost use Rattle.press_job.specs.Rows.{plate_frames};
 ghost use Rattle.cmd_replate.specs.Change.{AnswersChange, change_told, ChangeRefused, IsLate};
 ghost use Rattle.cmd_replate.specs.Change.{IsLoadedLate, Remakes, compared};
+ghost use Rattle.cmd_replate.specs.Remade.{text_with};
 ghost use Rattle.cmd_base.specs.Loads.{Lengths, Loads};
 ghost use Rattle.cmd_base.specs.Seen.{AreReady, shelf_seen, sink_seen};
 ghost use Rattle.cmd_base.specs.Writes.{Writes};
@@ -61,10 +62,18 @@ pub fn print_change<T: Threads + Sync, H: Shelf, R: Rack, S: Sink>(
     let late = load_late(rt, alloc, change, shelf)?;
     let remade = make_late(&ByThreads { rt }, alloc, change, &late, racks)?;
     let ends = remade.as_slice();
-    let plan = late.job.plan();
-    let dropped = late.dropped.as_str();
-    let text = remade_text(alloc, plan, ends, dropped)?;
+    let text = late_text(alloc, late, ends)?;
     put_text(text.as_bytes(), status_of(ends), out)
+}
+
+/// Formats the text of a delivery with these ends of its sites, and frees its job.
+fn late_text(alloc: Global, late: Late, ends: &[RemadeEnd]) -> Result<String, NoMemory>
+    requires ends { length ends.now ≡ length late.job.plan.sites }
+    requires few { length ends.now ≤ 16 }
+    ensures { IfOk result (λ text.
+        string_bytes text ≡ text_with late.job.plan.sites ends.now (string_bytes late.dropped)) }
+{
+    remade_text(alloc, late.job.plan(), ends, late.dropped.as_str())
 }
 
 /// Loads the old job and then the new one, and compares them. The old job is freed on return.
@@ -91,25 +100,53 @@ fn load_late<T: Threads + Sync, H: Shelf>(
     )?;
     let paths = change.paths;
     let job = load_job(rt, alloc, Whose::New, paths.plan, paths.files, shelf)?;
-    let late = compare(alloc, &before, job, paths.out)?;
+    let late = compare(alloc, before, job, paths.out)?;
     Ok(late)
 }
 
-/// Compares an old job with a new one.
-fn compare(alloc: Global, before: &Job, job: Job, out: &str) -> Result<Late, NoMemory>
-    ensures late { IfOk result (IsLate before.now out.now) }
+/// Compares an old job with a new one. Frees the old job.
+fn compare(alloc: Global, before: Job, job: Job, out: &str) -> Result<Late, NoMemory>
+    ensures late { IfOk result (IsLate before out.now) }
     ensures job { IfOk result (λ late. late.job ≡ job) }
 {
-    let olds = inputs_of(before);
-    let news = inputs_of(&job);
-    let picks = Picks::of(alloc, &olds, &news)?;
-    let plates = picks.dropped();
-    let dropped = dropped_lines(alloc, before, out, plates)?;
+    let (picks, dropped) = picks_of(alloc, before, &job, out)?;
     Ok(Late {
         job,
         picks,
         dropped,
     })
+}
+
+/// Returns the picks of a job's plates given an old job, and the lines of dropped old plates. Frees the old
+/// job.
+fn picks_of(
+    alloc: Global,
+    before: Job,
+    job: &Job,
+    out: &str,
+) -> Result<(Picks, String), NoMemory>
+    ensures { IfOk result (λ made.
+        IsLate before out.now (record { job = job.now; picks = made.0; dropped = made.1 })) }
+{
+    compare_jobs(alloc, &before, job, out)
+}
+
+/// Does the same and keeps the old job.
+fn compare_jobs(
+    alloc: Global,
+    before: &Job,
+    job: &Job,
+    out: &str,
+) -> Result<(Picks, String), NoMemory>
+    ensures { IfOk result (λ made.
+        IsLate before.now out.now (record { job = job.now; picks = made.0; dropped = made.1 })) }
+{
+    let olds = inputs_of(before);
+    let news = inputs_of(job);
+    let picks = Picks::of(alloc, &olds, &news)?;
+    let plates = picks.dropped();
+    let dropped = dropped_lines(alloc, before, out, plates)?;
+    Ok((picks, dropped))
 }
 
 /// Returns a job as the comparison takes it.

@@ -1,5 +1,5 @@
 // The command `verify`: checks whether the plates on a shelf are those of an edition.
-ghost use Rattle.std.specs.Prelude.{◌≡◌, IfOk, string_bytes};
+ghost use Rattle.std.specs.Prelude.{◌≡◌, IfOk, length, string_bytes};
 ghost use Rattle.press_job.specs.Rows.{plate_frames};
 ghost use Rattle.plate_verify.specs.Verifying.{told as found_of};
 ghost use Rattle.cmd_verify.specs.Check.{CheckLengths, asked_told, Verifies, PrintsFound};
@@ -38,9 +38,16 @@ pub fn print_check<T: Threads + Sync, H: Shelf, S: Sink>(
 {
     let job = load_job(rt, alloc, Whose::New, asked.plan, asked.files, shelf)?;
     let checked = verify_plates(&ByThreads { rt }, alloc, &job, asked.out, shelf)?;
-    let plan = job.plan();
-    let line = line_of(alloc, plan.site_count(), &checked)?;
+    let sites = site_count_of(job);
+    let line = line_of(alloc, sites, &checked)?;
     put_text(line.as_bytes(), status_of(&checked), out)
+}
+
+/// Returns the number of sites of a job, and frees the job.
+fn site_count_of(job: Job) -> usize
+    ensures { result ≡ length job.plan.sites }
+{
+    job.plan().site_count()
 }
 
 /// Verifies the plates of a job below the folder `out`. `maker` makes the bands of its rows.

@@ -9,7 +9,7 @@ use std::alloc::Global;
 use std::marker::Model;
 
 /// A rack in memory on which no call fails, except for lack of memory.
-#[derive(Debug, Drop)]
+#[derive(Drop)]
 pub struct SureRack {
     rack: MemRack,
 }

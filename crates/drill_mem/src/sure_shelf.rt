@@ -12,7 +12,7 @@ use std::alloc::Global;
 use std::marker::Model;
 
 /// A shelf in memory on which a load fails only if the path is not held.
-#[derive(Debug, Drop)]
+#[derive(Drop)]
 pub struct SureShelf {
     shelf: MemShelf,
 }

@@ -19,7 +19,7 @@ use tif_packbits::{Unpacker, framed};
 /// How many pixels are 1 at each key, for each group and ink of a row plan. All memory is allocated when it
 /// is made. Contracts see the number of groups that it was made for, the width, the number of keys and the
 /// counts.
-#[derive(Debug, Drop)]
+#[derive(Drop)]
 pub struct Counts {
     groups: usize,
     width: u32,

@@ -13,7 +13,7 @@ use ring_lanes::{NotYet, Reader};
 use std::marker::Model;
 
 /// Counts the rows of a ring, alongside the sites that take them. Contracts see the row plan and the counts.
-#[derive(Debug, Drop)]
+#[derive(Drop)]
 pub struct KeyReader<'p> {
     rows: &'p RowPlan,
     counts: Counts,

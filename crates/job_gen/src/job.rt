@@ -14,7 +14,7 @@ use pr_base::{NoMemory, PathText};
 use std::alloc::Global;
 
 /// An edition plan, and the files that it names, each with its path in the folder `in`.
-#[derive(Debug, Drop)]
+#[derive(Drop)]
 pub struct GenJob {
     /// The plan as JSON.
     pub plan: Vec<u8>,

@@ -12,7 +12,7 @@ use std::alloc::Global;
 use std::marker::Model;
 
 /// A row of each ink, a byte for each pixel: 0 is no ink and 255 is full ink. Contracts see the five rows.
-#[derive(Debug, Drop)]
+#[derive(Drop)]
 pub struct InkRow {
     cyan: Vec<u8>,
     magenta: Vec<u8>,

@@ -4,7 +4,7 @@ ghost use Rattle.std.specs.Prelude.{slice_index};
 ghost use Rattle.page_layers.specs.Rows.{IsLaid, LaysSpan};
 
 /// How a layer is painted.
-#[derive(Clone, Copy, Debug, PartialEq, Eq)]
+#[derive(Clone, Copy, PartialEq, Eq)]
 pub(crate) enum Painting {
     /// Every pixel replaces the ink below.
     Whole,

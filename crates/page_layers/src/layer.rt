@@ -5,7 +5,7 @@ use tif_image::{Bilevel, Contone};
 use tif_strips::{RowCursor, Shape};
 
 /// The image of a layer.
-#[derive(Debug, Drop)]
+#[derive(Drop)]
 pub enum Art<'a> {
     /// A contone image, which paints its four samples, and 0 in the spot ink.
     Contone(Contone<'a>),
@@ -40,7 +40,7 @@ impl<'a> Art<'a> {
 }
 
 /// A part of an image, in pixels of the image.
-#[derive(Clone, Copy, Debug, PartialEq, Eq)]
+#[derive(Clone, Copy, PartialEq, Eq)]
 pub struct Crop {
     /// The first column.
     pub x: u32,
@@ -51,7 +51,7 @@ pub struct Crop {
 }
 
 /// A layer of a page. Its top left corner is at `x` and `y`, in pixels from the page's top left corner.
-#[derive(Debug, Drop)]
+#[derive(Drop)]
 pub struct Layer<'a> {
     pub art: Art<'a>,
     /// The layer shows where its mask is marked. A mask has the width and length of the image.

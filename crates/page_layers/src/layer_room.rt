@@ -7,7 +7,7 @@ use std::marker::Model;
 
 /// Buffers for the rows of one layer: its paint, and where it is admitted. They are reused, so a layer writes
 /// them before it reads them.
-#[derive(Debug, Drop)]
+#[derive(Drop)]
 pub(crate) struct LayerRoom {
     pub(crate) paint: InkRow,
     pub(crate) marks: Vec<u8>,

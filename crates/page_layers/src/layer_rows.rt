@@ -19,7 +19,7 @@ use std::marker::Model;
 
 /// A layer, with the row of its image that was read last, expanded to the page's columns as paint. Contracts
 /// see the layer, the page's width, and the number of image rows passed so far.
-#[derive(Debug, Drop)]
+#[derive(Drop)]
 pub(crate) struct LayerRows<'a> {
     layer: Layer<'a>,
     /// The page's width in pixels.

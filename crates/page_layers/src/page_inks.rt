@@ -1,7 +1,7 @@
 // The inks that a page prints.
 
 /// The inks that a row of a page is painted in. Black is always among them.
-#[derive(Clone, Copy, Debug, PartialEq, Eq)]
+#[derive(Clone, Copy, PartialEq, Eq)]
 pub struct PageInks {
     /// Cyan, magenta and yellow are painted.
     pub colour: bool,

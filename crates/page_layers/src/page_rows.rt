@@ -19,7 +19,7 @@ use std::marker::Model;
 /// A page that returns its rows from the top, with buffers for a fixed number of layers. `clear` makes it
 /// ready for another page. Contracts see its layers, its sides in pixels, the number of the next row, and the
 /// number of layers that it has buffers for.
-#[derive(Debug, Drop)]
+#[derive(Drop)]
 pub struct PageRows<'a> {
     layers: Vec<LayerRows<'a>>,
     /// The buffers that no layer of the page uses.

@@ -37,7 +37,7 @@ pub(crate) fn refill(bytes: &mut Vec<u8>, len: usize, byte: u8)
 
 /// The buffers that rows of images and masks are read into. All layers of a page share them, one after the
 /// other.
-#[derive(Debug, Drop)]
+#[derive(Drop)]
 pub(crate) struct ReadRoom {
     pub(crate) image: Vec<u8>,
     pub(crate) mask: Vec<u8>,

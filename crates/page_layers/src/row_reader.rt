@@ -4,7 +4,7 @@ use std::marker::Model;
 use tif_strips::RowCursor;
 
 /// Reads the rows of an image. Contracts see the cursor.
-#[derive(Debug, Drop)]
+#[derive(Drop)]
 pub(crate) struct RowReader<'a> {
     rows: RowCursor<'a>,
     /// The number of rows passed so far, including the row read last.

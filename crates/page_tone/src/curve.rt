@@ -24,7 +24,7 @@ pub fn valid_points(points: &[(u8, u8)]) -> bool
 }
 
 /// A tone curve. Contracts see the list of what each of the 256 ink values becomes.
-#[derive(Clone, Copy, Debug, PartialEq, Eq)]
+#[derive(Clone, Copy, PartialEq, Eq)]
 pub struct Curve {
     values: [u8; 256],
 }

@@ -7,7 +7,7 @@ use std::marker::Model;
 
 /// An edition plan. It keeps everything that reading checks (`IsPlan`): ranges, lengths, forms of names,
 /// distinct names, and indexes within their lists. Lists of five are in the order C, M, Y, K, S.
-#[derive(Debug, Drop)]
+#[derive(Drop)]
 pub struct Plan {
     pub edition: PathText,
     /// Pixels per inch, 1 to 10,000.

@@ -5,7 +5,7 @@ use pr_base::PathText;
 use std::marker::Model;
 
 /// A section: the indexes of its pages, an even number of them, at most 128.
-#[derive(Debug, Drop)]
+#[derive(Drop)]
 pub struct Section {
     pub name: PathText,
     pub pages: Vec<usize>,
@@ -31,7 +31,7 @@ impl Named for Section {
 }
 
 /// A page that is printed instead of a section's own.
-#[derive(Clone, Copy, Debug, PartialEq, Eq)]
+#[derive(Clone, Copy, PartialEq, Eq)]
 pub struct Replace {
     pub section: usize,
     /// The page's number in the section, from 1.
@@ -41,7 +41,7 @@ pub struct Replace {
 }
 
 /// A zone of the edition.
-#[derive(Debug, Drop)]
+#[derive(Drop)]
 pub struct Zone {
     pub name: PathText,
     pub replace: Vec<Replace>,
@@ -64,7 +64,7 @@ impl Named for Zone {
 }
 
 /// A print site. Without a zone it prints the sections' own pages.
-#[derive(Debug, Drop)]
+#[derive(Drop)]
 pub struct PlanSite {
     pub name: PathText,
     pub zone: Option<usize>,

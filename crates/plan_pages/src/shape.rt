@@ -6,7 +6,7 @@ ghost use Rattle.plan_pages.specs.Plate.{shape_of_plate};
 use plan_json::Plan;
 
 /// A plate in pixels: its sides, the columns at which its two pages begin, and the row at which both begin.
-#[derive(Clone, Copy, Debug, PartialEq, Eq)]
+#[derive(Clone, Copy, PartialEq, Eq)]
 pub struct PlateShape {
     pub width: u32,
     pub height: u32,

@@ -4,7 +4,7 @@ use pr_base::PathText;
 use std::marker::Model;
 
 /// A page of the edition.
-#[derive(Debug, Drop)]
+#[derive(Drop)]
 pub struct Page {
     pub name: PathText,
     /// Whether the page prints C, M and Y in addition to K.
@@ -23,7 +23,7 @@ impl Model for Page {
 }
 
 /// An image on a page. Its files are given as indexes into the plan's list of files.
-#[derive(Clone, Copy, Debug, PartialEq, Eq)]
+#[derive(Clone, Copy, PartialEq, Eq)]
 pub struct PlanLayer {
     /// Whether the image is linework of one bit a pixel; otherwise it is contone.
     pub line: bool,

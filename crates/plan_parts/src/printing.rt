@@ -5,7 +5,7 @@ use pr_base::PathText;
 use std::marker::Model;
 
 /// A custom threshold tile of the plan: `width * height` thresholds, row by row.
-#[derive(Debug, Drop)]
+#[derive(Drop)]
 pub struct PlanTile {
     pub name: PathText,
     /// The width in pixels, 1 to 64.
@@ -32,7 +32,7 @@ impl Named for PlanTile {
 }
 
 /// The screen of an ink.
-#[derive(Clone, Copy, Debug, PartialEq, Eq)]
+#[derive(Clone, Copy, PartialEq, Eq)]
 pub enum Screen {
     /// Ordered dither with the Bayer tile of this side: 2, 4, 8 or 16.
     Bayer(u8),
@@ -43,7 +43,7 @@ pub enum Screen {
 }
 
 /// A tone curve, given by its points: an input ink value, and the value that it becomes.
-#[derive(Debug, Drop)]
+#[derive(Drop)]
 pub struct PlanCurve {
     pub points: Vec<(u8, u8)>,
 }
@@ -57,7 +57,7 @@ impl Model for PlanCurve {
 }
 
 /// A filled rectangle that is printed on each plate of its inks, in pixels of the plate.
-#[derive(Clone, Copy, Debug, PartialEq, Eq)]
+#[derive(Clone, Copy, PartialEq, Eq)]
 pub struct Mark {
     /// Whether the mark has each of the inks C, M, Y, K, S.
     pub inks: [bool; 5],

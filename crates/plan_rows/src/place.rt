@@ -3,7 +3,7 @@
 use pr_base::Ink;
 
 /// The place of a row: its group's index, its y from the top of the plate, and its ink.
-#[derive(Clone, Copy, Debug, PartialEq, Eq)]
+#[derive(Clone, Copy, PartialEq, Eq)]
 pub struct RowPlace {
     pub group: usize,
     pub y: u32,

@@ -17,7 +17,7 @@ const MOST_PAIRS: usize = 64;
 const MOST_GROUPS: usize = 8 * MOST_PAIRS * SITES;
 
 /// The order of all rows of a plan: section, pair, group, y, ink. The rows of a group are consecutive.
-#[derive(Debug, Drop)]
+#[derive(Drop)]
 pub struct RowPlan {
     groups: Vec<Group>,
     height: u32,

@@ -20,7 +20,7 @@ const FRONT: u64 = 8;
 /// complete file. The header stores the offset of the directory, which follows the rows and so depends on
 /// their packed length; the file can't be written out in order before all rows are there. The memory can be
 /// reused for a plate of the same size.
-#[derive(Debug, Drop)]
+#[derive(Drop)]
 pub struct PlateBytes {
     strips: PlateStrips,
     bytes: Vec<u8>,

@@ -15,7 +15,7 @@ const MOST_TAIL: usize = 167;
 
 /// The byte counts of a plate's strips so far, and a buffer for the bytes after its rows. After the last row
 /// of a plate the next plate begins.
-#[derive(Debug, Drop)]
+#[derive(Drop)]
 pub struct PlateStrips {
     sides: Sides,
     /// The y of the next row: 0 before the first and after the last.

@@ -6,7 +6,7 @@ use pr_base::{NoMemory, PathText};
 use thiserror::Error;
 
 /// The state of the held plates.
-#[derive(Debug, Drop, PartialEq, Eq)]
+#[derive(Drop, PartialEq, Eq)]
 pub enum Checked {
     /// The plates of all sites are held with the right bytes.
     Same {

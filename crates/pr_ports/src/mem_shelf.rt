@@ -16,7 +16,7 @@ use std::marker::Model;
 
 /// A shelf in memory. Calls are numbered from 0. A call fails if its number is in `failing`, or if its path
 /// isn't held. The call number saturates at 2^64 - 1.
-#[derive(Debug, Drop)]
+#[derive(Drop)]
 pub struct MemShelf {
     alloc: Global,
     files: Vec<(PathText, Vec<u8>)>,

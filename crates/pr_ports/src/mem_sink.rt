@@ -12,7 +12,7 @@ use std::marker::Model;
 
 /// A sink in memory. Calls are numbered from 0. A call whose number is in `failing` fails and accepts
 /// nothing. The call number saturates at 2^64 - 1.
-#[derive(Debug, Drop)]
+#[derive(Drop)]
 pub struct MemSink {
     bytes: Vec<u8>,
     failing: Vec<u64>,

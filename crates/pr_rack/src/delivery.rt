@@ -5,7 +5,7 @@ ghost use Rattle.pr_rack.specs.declared.delivery.FileCall.{FileCall as CallData}
 ghost use Rattle.pr_rack.specs.Delivery.{IsCutShort, delivery, with_all, with_call};
 
 /// A call on the file of a plate after its last byte.
-#[derive(Clone, Copy, Debug, PartialEq, Eq)]
+#[derive(Clone, Copy, PartialEq, Eq)]
 pub enum FileCall {
     /// Writes the offset of the directory.
     Place(u32),

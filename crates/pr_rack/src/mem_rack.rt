@@ -21,7 +21,7 @@ use tif_packbits::framed;
 
 /// A rack in memory. Calls are numbered from 0; the calls whose numbers are in `failing` fail. Numbers above
 /// 2^64 - 1 count as 2^64 - 1.
-#[derive(Debug, Drop)]
+#[derive(Drop)]
 pub struct MemRack {
     alloc: Global,
     slots: Slots,

@@ -8,7 +8,7 @@ use std::alloc::Global;
 use std::marker::Model;
 
 /// The number of failed calls, and the last of them with the path of its plate.
-#[derive(Debug, Drop)]
+#[derive(Drop)]
 pub(crate) struct Misses {
     faults: u64,
     missed: Option<(RackCall, PathText)>,

@@ -23,7 +23,7 @@ pub enum RackFault {
 }
 
 /// The calls of a rack.
-#[derive(Clone, Copy, Debug, PartialEq, Eq)]
+#[derive(Clone, Copy, PartialEq, Eq)]
 pub enum RackCall {
     Begin,
     Row,

@@ -11,7 +11,7 @@ use std::marker::Model;
 pub(crate) type Plate = (PathText, Vec<u8>);
 
 /// The plates under construction, each in its slot. A plate has at least the eight bytes before its rows.
-#[derive(Debug, Drop)]
+#[derive(Drop)]
 pub(crate) struct Slots {
     plates: [Option<Plate>; 5],
 }

@@ -1,7 +1,8 @@
 // A band of frames, made by as many threads as it has shares.
-ghost use Rattle.std.specs.Prelude.{All, ◌≡◌, ℕ, ◌+◌, ◌*◌, ◌<◌, ◌≤◌, ◌^◌, IfOk, IsTrue, ◌↔◌, length};
-ghost use Rattle.std.specs.Prelude.{slice_index_or};
-ghost use Rattle.press_feed.specs.Band.{AreMade, Covers, HoldsFrom, IsShareOf, ShareData};
+ghost use Rattle.std.specs.Prelude.{All, ◌≡◌, ℕ, ◌+◌, ◌*◌, ◌<◌, ◌≤◌, ◌^◌, IfOk, IsTrue, Some, ◌↔◌, length};
+ghost use Rattle.std.specs.Prelude.{slice_get, slice_index_or};
+ghost use Rattle.press_feed.specs.Band.{AreMade, Covers, HoldsFrom, IsFrameAt, IsShareOf, ShareData, frame_bytes};
+ghost use Rattle.press_job.specs.Rows.{plate_frames};
 
 use crate::frame::BandFrame;
 use crate::share::Share;
@@ -93,6 +94,23 @@ impl<'j> Band<'j> {
         let place = (n - self.first) as usize;
         let share = &self.shares[place / self.each];
         share.frame(place % self.each)
+    }
+
+    /// Copies frame `n`, if the band has it, and returns whether it was.
+    pub(crate) fn copy(&self, n: u64, row: &mut [u8]) -> bool
+        requires { length row.old ≡ frame_bytes self.now.job }
+        ensures frame { IsTrue result →
+            slice_get (plate_frames self.now.job.plan self.now.job.files) n ≡ Some row.new }
+        ensures len { length row.new ≡ length row.old }
+    {
+        if !self.has(n) {
+            return false;
+        }
+        let frame = self.frame(n);
+        if frame.is_made() {
+            row.copy_from_slice(frame.bytes());
+        }
+        frame.is_made()
     }
 }
 

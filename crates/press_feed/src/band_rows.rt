@@ -8,7 +8,7 @@ use crate::wanted::Wanted;
 use press_job::Job;
 
 /// Consecutive rows of the pages of a group, by its index.
-#[derive(Clone, Copy, Debug, PartialEq, Eq)]
+#[derive(Clone, Copy, PartialEq, Eq)]
 pub(crate) struct BandRows {
     pub(crate) group: usize,
     pub(crate) first: u32,

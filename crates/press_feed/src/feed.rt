@@ -1,8 +1,9 @@
 // The rows of a job in order.
-ghost use Rattle.std.specs.Prelude.{◌≡◌, ◌%◌, ◌<◌, ◌≤◌, IfOk, Some, length, slice_get};
+ghost use Rattle.std.specs.Prelude.{◌≡◌, ◌%◌, ◌<◌, ◌≤◌, IfOk, IsTrue, Some, length, slice_get};
 ghost use Rattle.std.specs.Option.{ForSome};
 ghost use Rattle.press_feed.specs.Band.{frame_bytes};
 ghost use Rattle.press_job.specs.Rows.{plate_frames};
+ghost use Rattle.press_job.specs.Job.{JobData};
 
 use crate::band::Band;
 use crate::row_maker::RowMaker;
@@ -144,9 +145,7 @@ fn make_sides<T: Threads + Sync>(
     ensures { wide.new ≡ wide.old }
 {
     if let Some(wide) = wide {
-        if maker.is_wanted(n) && wide.frame(n).is_none() {
-            wide.make(rt, n);
-        }
+        wide.make_wanted(rt, maker, n);
     }
 }
 
@@ -165,20 +164,22 @@ fn make_row(
     ensures frame { slice_get (plate_frames maker.old.plan maker.old.files) n ≡ Some row.new }
     ensures maker { maker.new ≡ maker.old }
 {
-    if band.has(n) {
-        let frame = band.frame(n);
-        if frame.is_made() {
-            row.copy_from_slice(frame.bytes());
-            return;
-        }
+    if !band.copy(n, row) && !copy_packed(wide, n, row) {
+        maker.make(n, row);
     }
-    if let Some(wide) = wide {
-        if let Some(frame) = wide.frame(n) {
-            row.copy_from_slice(frame);
-            return;
-        }
+}
+
+/// Copies frame `n`, if it is packed, and returns whether it was.
+fn copy_packed(wide: &Option<SideBand<'_>>, n: u64, row: &mut [u8]) -> bool
+    requires { ForSome wide.now (λ w. length row.old ≡ frame_bytes w.job) }
+    ensures frame { (job : JobData) → ForSome wide.now (λ w. w.job ≡ job) → IsTrue result →
+        slice_get (plate_frames job.plan job.files) n ≡ Some row.new }
+    ensures len { length row.new ≡ length row.old }
+{
+    match wide {
+        Some(wide) => wide.copy(n, row),
+        None => false,
     }
-    maker.make(n, row);
 }
 
 /// Returns the number of threads that make the bands of a job: none if making each row on request is as fast,

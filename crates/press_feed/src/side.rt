@@ -6,7 +6,7 @@ use plan_rows::Group;
 use press_job::Job;
 
 /// A side of a plate, where one of its two pages is.
-#[derive(Clone, Copy, Debug, PartialEq, Eq)]
+#[derive(Clone, Copy, PartialEq, Eq)]
 pub(crate) enum Side {
     Left,
     Right,

@@ -1,7 +1,7 @@
 // A band of frames of a plan that diffuses an ink. While threads pack the frames of one band, they draw the
 // rows of the next: each thread has some inks of one side, whose rows it draws from the top of a page to
 // its bottom.
-ghost use Rattle.std.specs.Prelude.{All, ◌≡◌, ℕ, ◌*◌, ◌%◌, ◌<◌, ◌≤◌, IfOk, IfSome, Some, length, slice_get};
+ghost use Rattle.std.specs.Prelude.{All, ◌≡◌, ℕ, ◌*◌, ◌%◌, ◌<◌, ◌≤◌, IfOk, IfSome, IsTrue, Some, length, slice_get};
 ghost use Rattle.std.specs.Prelude.{slice_index_or};
 ghost use Rattle.std.specs.Option.{ForSome};
 ghost use Rattle.plan_rows.specs.Groups.{groups_of};
@@ -17,6 +17,7 @@ use crate::drawn_rows::DrawnRows;
 use crate::held_rows::BLOCK;
 use crate::ink_shares::{inks_of_share, work_of};
 use crate::pages::page_row;
+use crate::row_maker::RowMaker;
 use crate::side::Side;
 use crate::wanted::Wanted;
 use pr_base::{Ink, NoMemory};
@@ -96,6 +97,32 @@ impl<'j> SideBand<'j> {
             return None;
         }
         self.parts[place].frame(n)
+    }
+
+    /// Copies frame `n`, if it is packed, and returns whether it was.
+    pub(crate) fn copy(&self, n: u64, row: &mut [u8]) -> bool
+        requires { length row.old ≡ frame_bytes self.now.job }
+        ensures frame { IsTrue result →
+            slice_get (plate_frames self.now.job.plan self.now.job.files) n ≡ Some row.new }
+        ensures len { length row.new ≡ length row.old }
+    {
+        match self.frame(n) {
+            Some(frame) => {
+                row.copy_from_slice(frame);
+                true
+            }
+            None => false,
+        }
+    }
+
+    /// Makes the band with frame `n`, if the frame is wanted and not packed.
+    pub(crate) fn make_wanted<T: Threads + Sync>(&mut self, rt: &T, maker: &RowMaker<'_>, n: u64)
+        requires { self.old.job ≡ maker.now }
+        ensures { self.new ≡ self.old }
+    {
+        if maker.is_wanted(n) && self.frame(n).is_none() {
+            self.make(rt, n);
+        }
     }
 
     /// Packs the frames from number `n` on, as far as the band has them, and draws the rows of the next

@@ -8,7 +8,7 @@ use pr_base::{INKS, Ink};
 
 /// The plates whose rows are requested. Rows of other plates aren't made ahead; one that is requested all the
 /// same is made by itself. Contracts see the flags.
-#[derive(Clone, Copy, Debug)]
+#[derive(Clone, Copy)]
 pub struct Wanted<'w> {
     /// For each group, whether the plate in each ink is wanted, by the ink's slot. If a group has no flags,
     /// all its plates are.

@@ -12,7 +12,7 @@ use tif_image::{Found, Usage};
 
 /// Files, each loaded whole, and what the tests of each found. Contracts see the lists of their bytes and of
 /// their findings.
-#[derive(Debug, Drop)]
+#[derive(Drop)]
 pub(crate) struct Files {
     files: Vec<Vec<u8>>,
     found: Vec<Findings>,

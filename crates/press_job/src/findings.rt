@@ -7,7 +7,7 @@ use std::alloc::Global;
 use tif_image::{BilevelUse, Found, Usage};
 
 /// What the tests found for each use that a file has passed; a record of nothing for any other use.
-#[derive(Debug, Drop)]
+#[derive(Drop)]
 pub(crate) struct Findings {
     contone: Found,
     line: Found,

@@ -12,7 +12,7 @@ use tif_packbits::frame_len;
 /// A plan whose files pass the tests of their uses, and whose crops and masks fit their images. Nothing made
 /// from it can be refused, except for lack of memory. Contracts see the plan and the bytes of its files in
 /// order.
-#[derive(Debug, Drop)]
+#[derive(Drop)]
 pub struct Job {
     plan: Plan,
     rows: RowPlan,

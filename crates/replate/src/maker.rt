@@ -13,7 +13,7 @@ use ring_lanes::{Deck, Held};
 use site_agent::{Kept, LeftCause, Site};
 
 /// A site of a delivery, and its end unless a call of its rack fails.
-#[derive(Debug, Drop)]
+#[derive(Drop)]
 pub(crate) struct Maker {
     pub(crate) site: Site,
     pub(crate) end: RemadeEnd,

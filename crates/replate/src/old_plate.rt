@@ -3,7 +3,7 @@
 use pr_base::Ink;
 
 /// A plate of the old job: the indexes of its site and its group, and its ink.
-#[derive(Clone, Copy, Debug, PartialEq, Eq)]
+#[derive(Clone, Copy, PartialEq, Eq)]
 pub struct OldPlate {
     pub site: usize,
     pub group: usize,

@@ -14,7 +14,7 @@ use std::marker::Model;
 
 /// Which plates of a new job must be made, compared with an old job, and which old plates are dropped. They
 /// take one byte for each site that a plan may have, for each group of the new plan.
-#[derive(Debug, Drop)]
+#[derive(Drop)]
 pub struct Picks {
     alike: [bool; INKS],
     kept: Vec<[bool; SITES]>,

@@ -3,7 +3,7 @@
 use pr_base::PathText;
 
 /// How a delivery of the plates that must be made ended at a site.
-#[derive(Debug, PartialEq, Eq, Drop)]
+#[derive(PartialEq, Eq, Drop)]
 pub enum RemadeEnd {
     /// All plates that must be made are finished: `made` of them. The other `kept` plates were kept.
     Done { made: u32, kept: u32 },

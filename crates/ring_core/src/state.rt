@@ -8,7 +8,7 @@ use std::alloc::Global;
 /// The schedule of a ring: `total` rows pass through `places` places to every reader.
 ///
 /// Each list has one entry per reader, except `lane`, which has one per reader and place, reader by reader.
-#[derive(Debug, Drop)]
+#[derive(Drop)]
 pub struct Core {
     pub places: u32,
     pub total: u64,

@@ -4,7 +4,7 @@ use thiserror::Error;
 
 /// Permission to publish the next row: `Writer::room` returns it and `Writer::publish` takes it. Contracts
 /// see the row's number. Only this crate makes one.
-#[derive(Debug, Drop)]
+#[derive(Drop)]
 pub struct Pass {
     head: u64,
 }

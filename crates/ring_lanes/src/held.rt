@@ -7,7 +7,7 @@ use std::marker::Model;
 /// A row taken from a deck or a ring: its bytes, its number among the rows of its deal, and where it was
 /// taken. It owns the buffer of the place that the row was taken from; the call that takes the row back
 /// returns the buffer there. Only this crate makes one.
-#[derive(Debug, Drop)]
+#[derive(Drop)]
 pub struct Held {
     bytes: Vec<u8>,
     number: u64,

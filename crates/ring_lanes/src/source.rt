@@ -1,7 +1,7 @@
 // Where a row was taken.
 
 /// Where a row was taken: from a deck, or from a ring by one of its readers.
-#[derive(Clone, Copy, Debug, PartialEq, Eq)]
+#[derive(Clone, Copy, PartialEq, Eq)]
 pub enum Source {
     /// A deck, which has one place.
     Deck,

@@ -12,7 +12,7 @@ use site_agent::{LeftCause, Site, TurnEnd};
 
 /// The role of a reader in a run: a site that continues, that has left, or that ran out of memory; or a key
 /// reader.
-#[derive(Debug, Drop)]
+#[derive(Drop)]
 pub(crate) enum Role<'p> {
     Going(Site),
     Left(LeftCause),

@@ -10,7 +10,7 @@ use ring_lanes::{Full, Writer};
 
 /// How a turn of the writer ended. It is no end of a reader's turn: the writer names the reader that it waits
 /// for, never leaves, and takes no memory.
-#[derive(Clone, Copy, Debug, PartialEq, Eq)]
+#[derive(Clone, Copy, PartialEq, Eq)]
 pub enum FeedEnd {
     /// Reader number `site`, a site's or a further one's, has yet to close row `at`, whose place the next row
     /// takes. As many looks of the turn found their place taken as the patience allows.

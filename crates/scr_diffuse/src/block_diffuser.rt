@@ -15,7 +15,7 @@ use std::marker::Model;
 /// Diffuses one page, eight rows a step. It keeps the errors of the last row taken and the pixels of the last
 /// eight rows. Contracts see the front of the page: its width in pixels, and the rows of values taken since
 /// the start or `restart`.
-#[derive(Debug, Drop)]
+#[derive(Drop)]
 pub struct BlockDiffuser {
     /// The error of pixel x of the row above is at x + 22; the places around the errors hold 0.
     errors: Vec<i16>,

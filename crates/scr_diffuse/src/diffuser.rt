@@ -11,7 +11,7 @@ use std::marker::Model;
 
 /// Diffuses one page, and keeps the errors of the row above. Contracts see the front of the page: its width
 /// in pixels, and the rows of values diffused since the start or `restart`.
-#[derive(Debug, Drop)]
+#[derive(Drop)]
 pub struct Diffuser {
     /// The error of pixel x of the row above is at x + 1, between two places that hold 0.
     errors: Vec<i16>,

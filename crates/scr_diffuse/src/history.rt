@@ -7,7 +7,7 @@ ghost use Rattle.scr_diffuse.specs.Block.{rows_in};
 
 use std::marker::Model;
 
-#[derive(Debug, Drop)]
+#[derive(Drop)]
 pub(crate) struct History {
     ghost steps: { List (List (List ℕ)) } by { coded_list (coded_list (coded_list coded_ℕ)) },
 }

@@ -5,7 +5,7 @@ ghost use Rattle.scr_tile.specs.Tile.{IsSide, IsBayerSide, threshold_at};
 use crate::{OwnTile, Tile, bayer};
 
 /// A Bayer tile, or a custom tile with the plan's own thresholds.
-#[derive(Debug, Drop)]
+#[derive(Drop)]
 pub enum AnyTile {
     B2(Tile<2, 2>),
     B4(Tile<4, 4>),

@@ -5,7 +5,7 @@ ghost use Rattle.scr_tile.specs.Tile.{IsSide};
 use std::marker::Model;
 
 /// A tile of a plan's own thresholds, row by row. Contracts see its width, height and thresholds.
-#[derive(Debug, Drop)]
+#[derive(Drop)]
 pub struct OwnTile {
     width: usize,
     height: usize,

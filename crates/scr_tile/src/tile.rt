@@ -5,7 +5,7 @@ ghost use Rattle.scr_tile.specs.Tile.{IsSide, number_at};
 use std::marker::Model;
 
 /// A tile of `H` rows of `W` thresholds. Contracts see the list of its rows.
-#[derive(Clone, Copy, Debug, PartialEq, Eq)]
+#[derive(Clone, Copy, PartialEq, Eq)]
 pub struct Tile<const W: usize, const H: usize> {
     at: [[u8; W]; H],
 }

@@ -17,7 +17,7 @@ use ring_lanes::Held;
 use tif_plate::plate_front;
 
 /// A call that the rack refused, and the fault it returned.
-#[derive(Clone, Copy, Debug)]
+#[derive(Clone, Copy)]
 pub(crate) struct Refusal {
     pub(crate) call: RackCall,
     pub(crate) fault: RackFault,

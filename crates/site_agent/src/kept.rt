@@ -5,7 +5,7 @@ use pr_rack::RackCall;
 
 /// Why a site dropped out: how many of its plates were finished, the number of the row, the call that its
 /// rack counted as failed, and the path of the row's plate.
-#[derive(Debug, PartialEq, Eq, Drop)]
+#[derive(PartialEq, Eq, Drop)]
 pub struct LeftCause {
     pub plates: u32,
     pub row: u64,
@@ -14,7 +14,7 @@ pub struct LeftCause {
 }
 
 /// The result of giving a row to a site.
-#[derive(Debug, PartialEq, Eq, Drop)]
+#[derive(PartialEq, Eq, Drop)]
 pub enum Kept {
     /// The row was kept, or is not one of the site's.
     Done,

@@ -37,7 +37,7 @@ use tif_plate::Sides;
 
 /// A print site, which builds its plates row by row on its rack. All memory is allocated when the site is
 /// made: the paths of its plates, and the strips of the plate in each slot.
-#[derive(Debug, Drop)]
+#[derive(Drop)]
 pub struct Site {
     plates: Vec<SitePlate>,
     sides: Sides,

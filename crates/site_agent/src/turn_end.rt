@@ -3,7 +3,7 @@
 use crate::LeftCause;
 
 /// How a site's turn ended.
-#[derive(Debug, PartialEq, Eq, Drop)]
+#[derive(PartialEq, Eq, Drop)]
 pub enum TurnEnd {
     /// The row at the reader's cursor, number `head` counted from 0, was found unpublished as often as the
     /// caller's patience allows.

@@ -17,7 +17,7 @@ use pr_base::{FaultKind, TagFault};
 use std::marker::Model;
 
 /// The first directory of a file whose header and directory are valid. Contracts see the file's bytes.
-#[derive(Debug, Drop)]
+#[derive(Drop)]
 pub struct Dir<'a> {
     bytes: &'a [u8],
     order: Order,

@@ -4,7 +4,7 @@ use crate::value_type::ValueType;
 use std::marker::Model;
 
 /// A field of a directory. Contracts see the list of its values; each is read from the file on demand.
-#[derive(Debug, Drop)]
+#[derive(Drop)]
 pub struct Field<'a> {
     order: Order,
     kind: ValueType,

@@ -5,7 +5,7 @@ ghost use Rattle.tif_dir.specs.Directory.{bytes_of, mark_of, number_of, order_of
 use byteorder::{BigEndian, ByteOrder, LittleEndian};
 
 /// The byte order of numbers (TIFF 6.0, Section 2).
-#[derive(Clone, Copy, Debug, PartialEq, Eq)]
+#[derive(Clone, Copy, PartialEq, Eq)]
 pub enum Order {
     /// `II`: least significant byte first.
     Little,

@@ -5,7 +5,7 @@ ghost use Rattle.tif_dir.specs.Directory.{number_of, size_of, type_of};
 use crate::order::Order;
 
 /// A type of unsigned numbers (TIFF 6.0, Section 2, "Types").
-#[derive(Clone, Copy, Debug, PartialEq, Eq)]
+#[derive(Clone, Copy, PartialEq, Eq)]
 pub enum ValueType {
     Byte,
     Short,

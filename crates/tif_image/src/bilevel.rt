@@ -7,7 +7,7 @@ use std::marker::Model;
 use tif_strips::{RowCursor, Shape, Strips};
 
 /// A bilevel image that has passed all tests. Contracts see its use, its shape and the file's bytes.
-#[derive(Debug, Drop)]
+#[derive(Drop)]
 pub struct Bilevel<'a> {
     usage: BilevelUse,
     shape: Shape,

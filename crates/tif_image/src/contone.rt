@@ -7,7 +7,7 @@ use std::marker::Model;
 use tif_strips::{RowCursor, Shape, Strips};
 
 /// A contone image that has passed all tests. Contracts see its shape and the file's bytes.
-#[derive(Debug, Drop)]
+#[derive(Drop)]
 pub struct Contone<'a> {
     shape: Shape,
     strips: Strips<'a>,

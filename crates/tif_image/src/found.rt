@@ -23,7 +23,7 @@ const NO_SHAPE: Shape = Shape {
 /// What the tests of an image leave: its shape, whether its pixels with bit 0 are the marked ones, where its
 /// strips are in the file, and the marks of long packed strips. These are plain numbers, with which the image
 /// is opened again without reading its directory. Contracts see all four.
-#[derive(Debug, Drop)]
+#[derive(Drop)]
 pub struct Found {
     shape: Shape,
     marks_zeros: bool,

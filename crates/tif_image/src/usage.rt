@@ -3,7 +3,7 @@ ghost use Rattle.std.specs.Prelude.{◌≡◌};
 ghost use Rattle.tif_image.specs.Usage.{depth_of, photometrics_of, samples_of};
 
 /// The use of a bilevel image.
-#[derive(Clone, Copy, Debug, PartialEq, Eq)]
+#[derive(Clone, Copy, PartialEq, Eq)]
 pub enum BilevelUse {
     /// Linework, whose marked pixels are painted. PhotometricInterpretation is 0 or 1.
     Line,
@@ -12,7 +12,7 @@ pub enum BilevelUse {
 }
 
 /// The use of an image.
-#[derive(Clone, Copy, Debug, PartialEq, Eq)]
+#[derive(Clone, Copy, PartialEq, Eq)]
 pub enum Usage {
     /// A contone picture in four inks. PhotometricInterpretation is 5.
     Contone,

@@ -8,7 +8,7 @@ use pr_base::row_bytes;
 use tif_dir::Order;
 
 /// The kind of an image.
-#[derive(Clone, Copy, Debug, PartialEq, Eq)]
+#[derive(Clone, Copy, PartialEq, Eq)]
 pub enum Kind {
     /// Four 8-bit samples per pixel: cyan, magenta, yellow, black (TIFF 6.0, Section 16).
     Contone,
@@ -19,7 +19,7 @@ pub enum Kind {
 }
 
 /// The layout of a pixel's samples (PlanarConfiguration, 284).
-#[derive(Clone, Copy, Debug, PartialEq, Eq)]
+#[derive(Clone, Copy, PartialEq, Eq)]
 pub enum Planar {
     /// Side by side: 1, the default, which is omitted from the file.
     Chunky,
@@ -28,7 +28,7 @@ pub enum Planar {
 }
 
 /// How rows are stored (Compression, 259).
-#[derive(Clone, Copy, Debug, PartialEq, Eq)]
+#[derive(Clone, Copy, PartialEq, Eq)]
 pub enum Compression {
     /// Uncompressed: 1.
     Uncompressed,
@@ -37,7 +37,7 @@ pub enum Compression {
 }
 
 /// How an image is stored in its file. Width and length are in pixels.
-#[derive(Clone, Copy, Debug, PartialEq, Eq)]
+#[derive(Clone, Copy, PartialEq, Eq)]
 pub struct ImageForm {
     pub kind: Kind,
     /// 1 to 65,535.

@@ -13,7 +13,7 @@ const NOTHING: u8 = 128;
 const NOTHINGS: [u8; 64] = [NOTHING; 64];
 
 /// The rest of a packet.
-#[derive(Clone, Copy, Debug)]
+#[derive(Clone, Copy)]
 pub enum Packet<'a> {
     /// The remaining bytes of a literal.
     Literal(&'a [u8]),

@@ -8,7 +8,7 @@ use std::marker::Model;
 
 /// Goes over packed bytes (TIFF 6.0, Section 9) without expanding them. Contracts see the packed bytes and
 /// what is still to come of their expansion.
-#[derive(Debug, Drop)]
+#[derive(Drop)]
 pub struct PacketCursor<'a> {
     packed: &'a [u8],
     packet: Packet<'a>,

@@ -13,7 +13,7 @@ use thiserror::Error;
 pub struct Short;
 
 /// Expands packed bytes in order (TIFF 6.0, Section 9). Contracts see the bytes still to come.
-#[derive(Debug, Drop)]
+#[derive(Drop)]
 pub struct Unpacker<'a> {
     packet: Packet<'a>,
     rest: &'a [u8],

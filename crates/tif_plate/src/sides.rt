@@ -1,7 +1,7 @@
 // The sides and the resolution of a plate.
 
 /// The width and the height of a plate in pixels, and its resolution in pixels per inch.
-#[derive(Clone, Copy, Debug, PartialEq, Eq)]
+#[derive(Clone, Copy, PartialEq, Eq)]
 pub struct Sides {
     pub width: u32,
     pub height: u32,

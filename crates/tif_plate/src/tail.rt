@@ -18,7 +18,7 @@ use crate::put::{put_all, put_whole, put_zeros};
 const FIRST_STRIP: u32 = 8;
 
 /// The length of a plate's tail in bytes, and the offset of the directory in the plate.
-#[derive(Clone, Copy, Debug, PartialEq, Eq)]
+#[derive(Clone, Copy, PartialEq, Eq)]
 pub struct Tail {
     pub len: usize,
     pub at: u32,

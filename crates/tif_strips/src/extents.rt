@@ -5,7 +5,7 @@ ghost use Rattle.tif_strips.specs.Extents.{count_in, extent_in};
 use tif_dir::Field;
 
 /// Where a strip is in a file.
-#[derive(Clone, Copy, Debug, PartialEq, Eq)]
+#[derive(Clone, Copy, PartialEq, Eq)]
 pub struct Extent {
     /// The offset of the strip in bytes from the start of the file (StripOffsets).
     pub offset: u32,
@@ -14,7 +14,7 @@ pub struct Extent {
 }
 
 /// The extents of all strips.
-#[derive(Debug, Drop)]
+#[derive(Drop)]
 pub(crate) enum Extents<'a> {
     /// The values of StripOffsets and of StripByteCounts.
     Fields(Field<'a>, Field<'a>),

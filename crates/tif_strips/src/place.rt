@@ -9,7 +9,7 @@ use crate::shape::MARK_ROWS;
 use crate::strip_table::StripTable;
 
 /// A position before a row, in the current strip of each plane. Reading in order starts each strip once.
-#[derive(Debug, Drop)]
+#[derive(Drop)]
 pub(crate) struct Place<'a> {
     /// The number of the next row.
     pub next: u32,

@@ -9,14 +9,14 @@ use crate::samples::Samples;
 const BLOCK: usize = 1024;
 
 /// The samples still to come of a strip in each plane.
-#[derive(Debug, Drop)]
+#[derive(Drop)]
 pub(crate) enum Planes<'a> {
     One(Samples<'a>),
     Four(Inks<'a>),
 }
 
 /// One plane per ink (TIFF 6.0, Section 16).
-#[derive(Debug, Drop)]
+#[derive(Drop)]
 pub(crate) struct Inks<'a> {
     pub cyan: Samples<'a>,
     pub magenta: Samples<'a>,

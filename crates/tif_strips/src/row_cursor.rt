@@ -6,7 +6,7 @@ use std::marker::Model;
 
 /// A cursor over the rows of an image. Contracts see the image's shape, the bytes of its file and the
 /// number of the next row.
-#[derive(Debug, Drop)]
+#[derive(Drop)]
 pub struct RowCursor<'a> {
     table: StripTable<'a>,
     place: Place<'a>,

@@ -8,7 +8,7 @@ use crate::shape::MARK_ROWS;
 use tif_packbits::Unpacker;
 
 /// The samples of a strip still to come. Packed samples are expanded on demand.
-#[derive(Debug, Drop)]
+#[derive(Drop)]
 pub(crate) enum Samples<'a> {
     Plain(&'a [u8]),
     Packed(PackedSamples<'a>),
@@ -16,7 +16,7 @@ pub(crate) enum Samples<'a> {
 
 /// Packed samples. Those that are skipped are only counted until samples behind them are read, so nothing of
 /// a strip is gone over behind the last sample that is wanted.
-#[derive(Debug, Drop)]
+#[derive(Drop)]
 pub(crate) struct PackedSamples<'a> {
     unpacker: Unpacker<'a>,
     /// How many of the unpacker's samples were skipped.

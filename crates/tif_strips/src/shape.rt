@@ -12,7 +12,7 @@ pub(crate) const MARK_ROWS: u32 = 64;
 
 /// The shape of an image. Width and length are in pixels. A contone image has four 8-bit samples per pixel,
 /// a bilevel one has a single 1-bit sample.
-#[derive(Clone, Copy, Debug, PartialEq, Eq)]
+#[derive(Clone, Copy, PartialEq, Eq)]
 pub struct Shape {
     /// ImageWidth (256).
     pub width: u32,

@@ -9,7 +9,7 @@ use pr_base::{FaultKind, TagFault};
 use tif_dir::tag::STRIP_OFFSETS;
 
 /// A strip of a file.
-#[derive(Clone, Copy, Debug, PartialEq, Eq)]
+#[derive(Clone, Copy, PartialEq, Eq)]
 pub(crate) struct Strip {
     /// The offset of the strip in bytes from the start of the file (StripOffsets).
     pub offset: u32,

@@ -19,7 +19,7 @@ use tif_dir::tag::{STRIP_BYTE_COUNTS, STRIP_OFFSETS};
 use tif_dir::{Dir, Field};
 
 /// The extents of an image's strips in its file, and their marks. Contracts see the image.
-#[derive(Debug, Drop)]
+#[derive(Drop)]
 pub(crate) struct StripTable<'a> {
     bytes: &'a [u8],
     shape: Shape,

@@ -17,7 +17,7 @@ use tif_dir::Dir;
 
 /// The strips of an image, all of which are within the file and have the samples that they need. Contracts
 /// see the image's shape and the bytes of its file.
-#[derive(Debug, Drop)]
+#[derive(Drop)]
 pub struct Strips<'a> {
     table: StripTable<'a>,
 }

@@ -1,4 +1,5 @@
 use Rattle.std.proofs.Common.{◌∙◌, refl, ap, inl, inr}
+use Rattle.std.specs.Prelude.{string_bytes}
 use Rattle.std.proofs.lemmas.Result.{err_from_is_err_and}
 use Rattle.cmd_replate.specs.Change.{change_told, change_makes, change_rules}
 use Rattle.cmd_replate.specs.Remade.{remade_text, status_of_remade}
@@ -32,10 +33,9 @@ returns-clause-answered g c =
     (prints_late g.R.Rack change _ c.in_ok-late.late late _ _ c.in_ok-remade.remade.items _ _
     c.in_ok-remade.ensures
     (c.as_bytes.ensures.value ∙ c.in_ok-text.ensures
-    ∙ text_is late.before.plan c.in_ok-late.late.job.plan c.plan-plan.result.now c.args.change.paths.out.now
-    c.as_slice-ends.result.now c.in_ok-remade.remade.items c.as_str-dropped.result.now
-    c.plan-plan.ensures.plan c.as_slice-ends.ensures.value
-    (c.as_str-dropped.ensures.value ∙ late.is.dropped))
+    ∙ text_is late.before.plan c.in_ok-late.late.job.plan c.in_ok-late.late.job.plan c.args.change.paths.out.now
+    c.as_slice-ends.result.now c.in_ok-remade.remade.items (string_bytes c.in_ok-late.late.dropped)
+    refl c.as_slice-ends.ensures.value late.is.dropped)
     (c.status_of.ensures ∙ ap status_of_remade c.as_slice-ends.ensures.value))
     c.put_text.ensures.puts
 
