@@ -14,7 +14,7 @@ use Rattle.tif_strips.specs.Strips.{Cursor, Image, image_part, image_row, ink_pa
 use Rattle.page_layers.specs.declared.layer.Art.{Art}
 use Rattle.page_layers.specs.declared.layer.Art.TheVariants.{Contone, Line}
 use Rattle.page_layers.specs.declared.layer.Layer.{Layer}
-use Rattle.page_layers.specs.declared.lay.Painting.{Painting}
+use Rattle.page_paint.specs.declared.lay.Painting.{Painting}
 use Rattle.page_layers.specs.declared.page_inks.PageInks.{PageInks}
 use Rattle.page_layers.specs.Inks.{HasWidth, Planes, inks_at, only, painted_inks}
 use Rattle.page_layers.specs.Layer.{IsLayer, bytes_of, paint_at, shape_of}

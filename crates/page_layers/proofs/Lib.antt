@@ -4,4 +4,3 @@ pub mod Layers
 pub mod Only
 pub mod Pages
 pub mod Blocks
-pub mod Spans

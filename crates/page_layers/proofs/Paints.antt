@@ -5,13 +5,14 @@ use Rattle.tif_image.specs.Image.{BilevelImage}
 use Rattle.page_layers.specs.declared.layer.Art.{Art}
 use Rattle.page_layers.specs.declared.layer.Art.TheVariants.{Contone, Line}
 use Rattle.page_layers.specs.declared.layer.Layer.{Layer}
-use Rattle.page_layers.specs.declared.lay.Painting.{Painting}
-use Rattle.page_layers.specs.declared.lay.Painting.TheVariants.{Whole, Knockout, Overprint}
+use Rattle.page_paint.specs.declared.lay.Painting.{Painting}
+use Rattle.page_paint.specs.declared.lay.Painting.TheVariants.{Whole, Knockout, Overprint}
 use Rattle.page_layers.specs.declared.page_inks.PageInks.{PageInks}
 use Rattle.page_layers.specs.Inks.{Planes, blank, inks_at, laid, laid_value, only, painted_inks}
 use Rattle.page_layers.specs.Layer.{admits, column_at, covers_column, covers_row, paint_at, painted, paints_at, row_at, shows_through}
 use Rattle.page_layers.specs.Page.{shows_on}
-use Rattle.page_layers.specs.Rows.{IsExpanded, LaysSpan, bare_art, is_bare, laid_where, no_mask, painted_as, painting_of, span_of}
+use Rattle.page_paint.specs.Rows.{LaysSpan, laid_where, painted_as}
+use Rattle.page_layers.specs.Rows.{IsExpanded, bare_art, is_bare, no_mask, painting_of, span_of}
 use Rattle.page_layers.proofs.Only.{only-five, only-laid_if}
 
 -- each pixel of a contone layer without a mask shows

@@ -3,10 +3,10 @@ ghost use Rattle.std.specs.Prelude.{◌≡◌, ℕ, ◌+◌, ◌*◌, ◌<◌, �
 ghost use Rattle.page_layers.specs.Rows.{HasSamples, IsClearBeside};
 
 use crate::PageInks;
-use crate::lay::{Painting, lay_ink, lay_span};
 use crate::room::{refill, room};
 use crate::row_reader::RowReader;
 use crate::stretch::stretch;
+use page_paint::{Painting, lay_ink, lay_span};
 use pr_base::{Ink, NoMemory};
 use std::alloc::Global;
 use std::marker::Model;
@@ -46,7 +46,8 @@ impl InkRow {
     ghost use Rattle.std.specs.Prelude.{slice_index, true};
     ghost use Rattle.page_layers.specs.Inks.{HasWidth, blank_planes, plane_of};
     ghost use Rattle.tif_strips.specs.Strips.{planes};
-    ghost use Rattle.page_layers.specs.Rows.{HasSamples, IsClearBeside, IsInkOf, LaysSpan, painted_as};
+    ghost use Rattle.page_layers.specs.Rows.{HasSamples, IsClearBeside, IsInkOf};
+    ghost use Rattle.page_paint.specs.Rows.{LaysSpan, painted_as};
 
     /// Allocates a row of `width` pixels without ink.
     pub fn new(alloc: Global, width: u32) -> Result<InkRow, NoMemory>

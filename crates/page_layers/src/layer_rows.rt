@@ -8,13 +8,13 @@ ghost use Rattle.page_layers.specs.Rows.{IsPaint, LaysRow, bare_art, fixed_of, p
 ghost use Rattle.page_layers.specs.Rows.{with_fixed};
 
 use crate::admit::{admit_row, is_bare};
-use crate::lay::Painting;
 use crate::layer::{Art, Crop, Layer};
 use crate::layer_room::LayerRoom;
 use crate::mask_rows::{open_mask, reach_mask, restart_mask};
 use crate::room::{ReadRoom, refill};
 use crate::row_reader::RowReader;
 use crate::{InkRow, PageInks};
+use page_paint::Painting;
 use std::marker::Model;
 
 /// A layer, with the row of its image that was read last, expanded to the page's columns as paint. Contracts

@@ -4,7 +4,6 @@
 
 mod admit;
 mod ink_row;
-mod lay;
 mod layer;
 mod layer_room;
 mod layer_rows;

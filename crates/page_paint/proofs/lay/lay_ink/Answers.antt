@@ -1,7 +1,7 @@
 use Rattle.std.proofs.Common.{◌≡◌, ◌+◌, ◌-◌, length, take, drop, arith}
 use Rattle.std.proofs.lemmas.List.{length-drop, length-take}
-use Rattle.page_layers.proofs.Spans.{LaysSpan_fill, LaysSpan_nothing}
-use Rattle.page_layers.proofs.lay.lay_ink.Goals as goal
+use Rattle.page_paint.proofs.Spans.{LaysSpan_fill, LaysSpan_nothing}
+use Rattle.page_paint.proofs.lay.lay_ink.Goals as goal
 
 pub returns-in-Whole : goal.returns-in-Whole
 returns-in-Whole c =

@@ -1,6 +1,6 @@
 use Rattle.std.proofs.Common.{◌≡◌, ℕ, ◌<◌, ◌≤◌, if◌then◌else◌, slice_index}
 use Rattle.std.specs.Prelude.{◌==◌}
-use Rattle.page_layers.proofs.lay.spread.Given as goal
+use Rattle.page_paint.proofs.lay.spread.Given as goal
 
 abbrev pub invariant-loop-x : goal.invariant-loop-x
 invariant-loop-x l = record {

@@ -1,11 +1,11 @@
 // Painting over a row of one ink.
 ghost use Rattle.std.specs.Prelude.{◌≡◌, ℕ, ◌+◌, ◌<◌, ◌≤◌, ◌==◌, if◌then◌else◌, length, replicate};
 ghost use Rattle.std.specs.Prelude.{slice_index};
-ghost use Rattle.page_layers.specs.Rows.{IsLaid, LaysSpan};
+ghost use Rattle.page_paint.specs.Rows.{IsLaid, LaysSpan};
 
 /// How a layer is painted.
 #[derive(Clone, Copy, PartialEq, Eq)]
-pub(crate) enum Painting {
+pub enum Painting {
     /// Every pixel replaces the ink below.
     Whole,
     /// Admitted pixels replace the ink below.
@@ -18,10 +18,10 @@ pub(crate) enum Painting {
 
 impl Painting {
     ghost use Rattle.std.specs.Prelude.{◌≡◌};
-    ghost use Rattle.page_layers.specs.Rows.{painted_as};
+    ghost use Rattle.page_paint.specs.Rows.{painted_as};
 
     /// Returns how a layer is painted in an ink that is painted or not.
-    pub(crate) fn of(self, is_painted: bool) -> Painting
+    pub fn of(self, is_painted: bool) -> Painting
         ensures { result ≡ painted_as is_painted self }
     {
         if is_painted { self } else { Painting::Nothing }
@@ -29,13 +29,7 @@ impl Painting {
 }
 
 /// Paints over a row from column `from` on. A pixel is admitted where `admitted` is not 0.
-pub(crate) fn lay_span(
-    painting: Painting,
-    from: usize,
-    paint: &[u8],
-    admitted: &[u8],
-    into: &mut [u8],
-)
+pub fn lay_span(painting: Painting, from: usize, paint: &[u8], admitted: &[u8], into: &mut [u8])
     requires paint { length paint.now ≡ length admitted.now }
     requires within { from + length admitted.now ≤ length into.old }
     ensures { LaysSpan painting from paint.now admitted.now into.old into.new }
@@ -50,7 +44,7 @@ pub(crate) fn lay_span(
 }
 
 /// Paints one ink value over a row from column `from` on, where it is admitted.
-pub(crate) fn lay_ink(painting: Painting, from: usize, ink: u8, admitted: &[u8], into: &mut [u8])
+pub fn lay_ink(painting: Painting, from: usize, ink: u8, admitted: &[u8], into: &mut [u8])
     requires within { from + length admitted.now ≤ length into.old }
     ensures { LaysSpan painting from (replicate (length admitted.now) ink) admitted.now into.old into.new }
 {

@@ -5,9 +5,9 @@ use Rattle.std.proofs.lemmas.Bool.{ne_eqb}
 use Rattle.std.proofs.lemmas.List.{get_or-replicate, length-replicate}
 use borrow.Rule.Slice.PartMut.{put_mid}
 use Rattle.pr_base.proofs.Parts.{part_above, part_below, part_here, part_long}
-use Rattle.page_layers.specs.declared.lay.Painting.{Painting}
-use Rattle.page_layers.specs.declared.lay.Painting.TheVariants.{Whole, Knockout, Overprint, Nothing}
-use Rattle.page_layers.specs.Rows.{LaysSpan, laid_where}
+use Rattle.page_paint.specs.declared.lay.Painting.{Painting}
+use Rattle.page_paint.specs.declared.lay.Painting.TheVariants.{Whole, Knockout, Overprint, Nothing}
+use Rattle.page_paint.specs.Rows.{LaysSpan, laid_where}
 
 -- a part of a row that was rewritten
 LaysSpan_part : (painting : Painting) (from cut size : ℕ) (paint admitted old part : List ℕ) → from + length admitted ≤ length old → cut ≡ length admitted → size ≡ length admitted → length part ≡ size

@@ -1,10 +1,10 @@
 use Rattle.std.proofs.Common.{◌≡◌, ℕ, ◌≤◌, slice_index}
-use Rattle.page_layers.specs.declared.lay.Painting.TheVariants.{Knockout}
-use Rattle.page_layers.specs.Rows.{IsLaid}
-use Rattle.page_layers.proofs.lay.knock_out.Given as goal
+use Rattle.page_paint.specs.declared.lay.Painting.TheVariants.{Overprint}
+use Rattle.page_paint.specs.Rows.{IsLaid}
+use Rattle.page_paint.proofs.lay.overprint.Given as goal
 
 abbrev pub invariant-loop-x : goal.invariant-loop-x
 invariant-loop-x l = record {
-  laid : IsLaid Knockout l.paint l.admitted l.fn.into l.x l.into;
+  laid : IsLaid Overprint l.paint l.admitted l.fn.into l.x l.into;
   rest : (k : ℕ) → l.x ≤ k → slice_index l.into k ≡ slice_index l.fn.into k;
 }

@@ -1,5 +1,5 @@
-use Rattle.page_layers.proofs.Spans.{LaysSpan_none, LaysSpan_overprint}
-use Rattle.page_layers.proofs.lay.overprint_ink.Goals as goal
+use Rattle.page_paint.proofs.Spans.{LaysSpan_none, LaysSpan_overprint}
+use Rattle.page_paint.proofs.lay.overprint_ink.Goals as goal
 
 pub returns : goal.returns
 returns c = LaysSpan_overprint c.args.from c.args.ink c.args.admitted.now c.args.into.now _ c.if-ink-eq0.false c.knock_out_ink.ensures

@@ -1,7 +1,7 @@
 use Rattle.std.proofs.Common.{◌≡◌, ◌+◌, ◌-◌, length, take, drop, ◌∙◌, arith}
 use Rattle.std.proofs.lemmas.List.{get_or-drop, get_or-take, length-drop, length-take}
-use Rattle.page_layers.proofs.Spans.{LaysSpan_spread}
-use Rattle.page_layers.proofs.lay.knock_out_ink.Goals as goal
+use Rattle.page_paint.proofs.Spans.{LaysSpan_spread}
+use Rattle.page_paint.proofs.lay.knock_out_ink.Goals as goal
 
 pub returns : goal.returns
 returns c =
