@@ -1,13 +1,13 @@
 -- One ink value painted over a span of a row.
-use Rattle.std.proofs.Common.{◌≡◌, ◌≢◌, ℕ, ◌+◌, ◌-◌, ◌<◌, ◌≤◌, Bool, true, false, if◌then◌else◌, List, length, get_or, replicate, refl, ap, sym, ◌∙◌, arith}
+use Rattle.std.proofs.Common.{◌≡◌, ◌≢◌, ℕ, ◌+◌, ◌-◌, ◌<◌, ◌≤◌, Bool, true, false, if◌then◌else◌, List, length, take, drop, get_or, replicate, refl, ap, sym, ◌∙◌, arith}
 use Rattle.std.specs.Prelude.{◌==◌}
 use Rattle.std.proofs.lemmas.Bool.{ne_eqb}
-use Rattle.std.proofs.lemmas.List.{get_or-replicate, length-replicate}
+use Rattle.std.proofs.lemmas.List.{get_or-drop, get_or-replicate, get_or-take, length-drop, length-replicate, length-take}
 use borrow.Rule.Slice.PartMut.{put_mid}
 use Rattle.pr_base.proofs.Parts.{part_above, part_below, part_here, part_long}
 use Rattle.page_paint.specs.declared.lay.Painting.{Painting}
 use Rattle.page_paint.specs.declared.lay.Painting.TheVariants.{Whole, Knockout, Overprint, Nothing}
-use Rattle.page_paint.specs.Rows.{LaysSpan, laid_where}
+use Rattle.page_paint.specs.Rows.{IsLaid, LaysSpan, laid_where}
 
 -- a part of a row that was rewritten
 LaysSpan_part : (painting : Painting) (from cut size : ℕ) (paint admitted old part : List ℕ) → from + length admitted ≤ length old → cut ≡ length admitted → size ≡ length admitted → length part ≡ size
@@ -21,6 +21,23 @@ LaysSpan_part painting from cut size paint admitted old part room cut_is size_is
   before = λ x below. part_below from cut old part x (omega arith) below;
   behind = λ x above. part_above from cut old part x (omega arith) (omega arith) (omega arith);
 }
+
+-- paint laid over a part of a row
+pub LaysSpan_laid : (painting : Painting) (from cut : ℕ) (paint admitted old part : List ℕ) → from + length admitted ≤ length old → cut ≡ length admitted
+    → length part ≡ length (take cut (drop from old)) → IsLaid painting paint admitted (take cut (drop from old)) (length (take cut (drop from old))) part
+    → LaysSpan painting from paint admitted old (put_mid from cut old part)
+LaysSpan_laid painting from cut paint admitted old part room cut_is long laid =
+    let size : length (take cut (drop from old)) ≡ length admitted = omega (arith, length-take cut (drop from old), length-drop from old) in
+    LaysSpan_part painting from cut (length (take cut (drop from old))) paint admitted old part room cut_is size long
+    (λ j within.
+    laid.each j (omega arith)
+    ∙ ap (laid_where painting (get_or admitted j 0) (get_or paint j 0)) (get_or-take cut (drop from old) j 0 (omega arith) ∙ get_or-drop from old j 0))
+
+-- paint that replaces a part of a row
+pub LaysSpan_whole : (from cut : ℕ) (paint admitted old part : List ℕ) → from + length admitted ≤ length old → cut ≡ length admitted → length paint ≡ length admitted → part ≡ paint
+    → LaysSpan Whole from paint admitted old (put_mid from cut old part)
+LaysSpan_whole from cut paint admitted old part room cut_is size_is same =
+    LaysSpan_part Whole from cut (length paint) paint admitted old part room cut_is size_is (ap length same) (λ j within. ap (λ list. get_or list j 0) same)
 
 -- a value that fills its span
 pub LaysSpan_fill : (from cut size ink : ℕ) (admitted old part : List ℕ) → from + length admitted ≤ length old → cut ≡ length admitted → size ≡ length admitted → part ≡ replicate size ink
