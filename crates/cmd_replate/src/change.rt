@@ -119,12 +119,7 @@ fn compare(alloc: Global, before: Job, job: Job, out: &str) -> Result<Late, NoMe
 
 /// Returns the picks of a job's plates given an old job, and the lines of dropped old plates. Frees the old
 /// job.
-fn picks_of(
-    alloc: Global,
-    before: Job,
-    job: &Job,
-    out: &str,
-) -> Result<(Picks, String), NoMemory>
+fn picks_of(alloc: Global, before: Job, job: &Job, out: &str) -> Result<(Picks, String), NoMemory>
     ensures { IfOk result (λ made.
         IsLate before out.now (record { job = job.now; picks = made.0; dropped = made.1 })) }
 {
