@@ -20,7 +20,7 @@ returns-clause-told g c =
           c.load_job.ensures.held c.load_job.ensures.faults_stay c.in_ok-job.ensures.lengths
           c.in_ok-job.job c.args.asked.out.now c.in_ok-checked.checked c.in_ok-checked.ensures.verifies;
       text_is = c.as_bytes.ensures.value ∙ c.in_ok-line.ensures
-          ∙ ap (λ sites. found_line sites (told c.in_ok-checked.checked)) c.site_count_of.ensures;
+          ∙ ap (λ sites. found_line sites (told c.in_ok-checked.checked)) c.site_count_of-sites.ensures;
       status_is = c.status_of.ensures;
     })
     c.put_text.ensures.puts
