@@ -1,4 +1,4 @@
-use Rattle.std.proofs.Common.{◌∙◌, length, ap, refl}
+use Rattle.std.proofs.Common.{◌∙◌, ap, refl}
 use Rattle.plate_verify.specs.Verifying.{told}
 use Rattle.cmd_verify.specs.Check.{CheckLengths, asked_told, PrintsFound, check_rules, found_line}
 use Rattle.cmd_base.specs.Seen.{shelf_seen}
