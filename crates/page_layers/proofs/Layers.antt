@@ -1,8 +1,8 @@
 -- What a layer's rows keep, from the first row on.
-use Rattle.std.proofs.Common.{◌≡◌, ℕ, Bool, true, false, if◌then◌else◌, ◌+◌, ◌*◌, ◌/◌, ◌%◌, ◌<◌, ◌≤◌, List, length, map, take, drop, get_or, replicate, slice_index, Option, Some, None, option_map, refl, sym, ap, ◌∙◌, arith}
+use Rattle.std.proofs.Common.{◌≡◌, ℕ, Bool, true, false, if◌then◌else◌, ◌+◌, ◌-◌, ◌*◌, ◌/◌, ◌%◌, ◌<◌, ◌≤◌, ◌++◌, IsTrue, List, length, map, take, drop, get_or, replicate, slice_index, Option, Some, None, option_map, refl, sym, ap, subst, ◌∙◌, arith}
 use Rattle.std.proofs.Math.Nat.{mul-div-le}
 use Rattle.std.specs.List.{range_with_len}
-use Rattle.std.proofs.lemmas.List.{get_or-drop, get_or-replicate, get_or-take, length-replicate}
+use Rattle.std.proofs.lemmas.List.{get_or-drop, get_or-replicate, get_or-take, length-replicate, take_at}
 use Rattle.std.proofs.lemmas.List.FromFn.{get_or-map-range_with_len}
 use Rattle.std.specs.Prelude.{◌==◌}
 use Rattle.std.specs.Option.{ForSome}
@@ -18,8 +18,8 @@ use Rattle.page_paint.specs.declared.lay.Painting.{Painting}
 use Rattle.page_layers.specs.declared.page_inks.PageInks.{PageInks}
 use Rattle.page_layers.specs.Inks.{HasWidth, Planes, inks_at, only, painted_inks}
 use Rattle.page_layers.specs.Layer.{IsLayer, bytes_of, paint_at, shape_of}
-use Rattle.page_layers.specs.Reader.{IsOf, mask_cursor}
-use Rattle.page_layers.specs.Rows.{HasSamples, IsInkOf, IsLayerRows, IsPaint, bare_art, fixed_of, painting_of, span_of, with_fixed}
+use Rattle.page_layers.specs.Reader.{IsOf, at_row, mask_cursor}
+use Rattle.page_layers.specs.Rows.{HasSamples, IsAdmitted, IsInkOf, IsLayerRows, IsPaint, bare_art, fixed_of, is_bare, painting_of, span_of, with_fixed}
 use Rattle.page_layers.proofs.Only.{only-five}
 
 -- a row of an image has at most four bytes for each of its pixels
@@ -91,6 +91,51 @@ IsLayerRows-open layer width columns painting image mask paint inks marks admitt
       expanded = λ read. absurd (omega arith);
       marks_wide = marks_wide;
       admitted_wide = admitted_wide;
+    }
+
+-- a mask's cursor at another row
+at_row-mask : (n next : ℕ) (mask : Option BilevelImage) → option_map (at_row n) (option_map (mask_cursor next) mask) ≡ option_map (mask_cursor n) mask
+at_row-mask n next None = refl
+at_row-mask n next (Some mask) = refl
+
+-- after another row
+pub IsLayerRows-next : (layer : Layer) (width row marks_len admitted_len : ℕ) (painting : Painting) (image new_image : Cursor) (mask new_mask : Option Cursor) (paint new_paint : Planes) (inks : PageInks)
+    (marks old_marks new_marks admitted old_admitted new_admitted : List ℕ) (marks_room admitted_room : ℕ)
+    → IsLayerRows layer width painting image mask paint inks marks admitted marks_room admitted_room → new_image ≡ record image { next = row + 1 } → new_mask ≡ option_map (at_row (row + 1)) mask
+    → HasWidth new_paint (length paint.cyan) → new_paint ≡ with_fixed layer.art (length paint.cyan) new_paint
+    → IsPaint (painted_inks inks) layer.art layer.crop.x layer.scale (new_image.next - 1) (length paint.cyan) new_paint
+    → old_marks ≡ marks → length old_marks ≡ marks_len → length new_marks ≡ length old_marks → old_admitted ≡ admitted → length old_admitted ≡ admitted_len → length new_admitted ≡ length old_admitted
+    → (IsTrue (is_bare layer) → new_admitted ≡ old_admitted) → IsAdmitted layer (new_image.next - 1) (length old_admitted) new_admitted
+    → IsLayerRows layer width painting new_image new_mask new_paint inks (take marks_len (new_marks ++ drop (length new_marks) marks)) (take admitted_len (new_admitted ++ drop (length new_admitted) admitted))
+    marks_room admitted_room
+IsLayerRows-next layer width row marks_len admitted_len painting image new_image mask new_mask paint new_paint inks marks old_marks new_marks admitted old_admitted new_admitted marks_room admitted_room is image_is mask_is
+    wide fixed paint_is marks_are marks_len_is marks_long admitted_are admitted_len_is admitted_long bare admits_is =
+    let span = span_of width layer in
+    let next : new_image.next ≡ row + 1 = ap (λ (cursor : Cursor). cursor.next) image_is in
+    let long : length paint.cyan ≡ span = is.wide.cyan in
+    let new_marks_are : length (take marks_len (new_marks ++ drop (length new_marks) marks)) ≡ length marks =
+    ap length (take_at new_marks (drop (length new_marks) marks) marks_len (marks_long ∙ marks_len_is)) ∙ marks_long ∙ ap length marks_are in
+    let written : take admitted_len (new_admitted ++ drop (length new_admitted) admitted) ≡ new_admitted =
+    take_at new_admitted (drop (length new_admitted) admitted) admitted_len (admitted_long ∙ admitted_len_is) in
+    let old_long : length old_admitted ≡ span = ap length admitted_are ∙ is.admitted_long in
+    record {
+      layer_is = is.layer_is;
+      painting_is = is.painting_is;
+      sides = is.sides;
+      image_is = image_is ∙ ap (λ (cursor : Cursor). record cursor { next = row + 1 }) is.image_is ∙ ap (λ n. record { shape = shape_of layer.art; bytes = bytes_of layer.art; next = n }) (sym next);
+      mask_is = mask_is ∙ ap (option_map (at_row (row + 1))) is.mask_is ∙ at_row-mask (row + 1) image.next layer.mask ∙ ap (λ n. option_map (mask_cursor n) layer.mask) (sym next);
+      wide = subst (HasWidth new_paint) long wide;
+      fixed = subst (λ n. new_paint ≡ with_fixed layer.art n new_paint) long fixed;
+      admitted_long = ap length written ∙ admitted_long ∙ old_long;
+      marks_long = subst (λ n. span ≤ n * layer.scale) (sym new_marks_are) is.marks_long;
+      columns = subst (λ n. n ≤ layer.crop.width) (sym new_marks_are) is.columns;
+      bare = λ is_bare. written ∙ bare is_bare ∙ admitted_are ∙ is.bare is_bare;
+      expanded = λ read. record {
+        paint_is = subst (λ n. IsPaint (painted_inks inks) layer.art layer.crop.x layer.scale (new_image.next - 1) n new_paint) long paint_is;
+        admits_is = subst (IsAdmitted layer (new_image.next - 1) span) (sym written) (subst (λ n. IsAdmitted layer (new_image.next - 1) n new_admitted) old_long admits_is);
+      };
+      marks_wide = is.marks_wide;
+      admitted_wide = is.admitted_wide;
     }
 
 -- paint of linework has its inks at each column

@@ -4,3 +4,4 @@ pub mod Layers
 pub mod Only
 pub mod Pages
 pub mod Blocks
+pub mod Slices
