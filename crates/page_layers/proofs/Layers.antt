@@ -1,11 +1,12 @@
 -- What a layer's rows keep, from the first row on.
-use Rattle.std.proofs.Common.{◌≡◌, ℕ, Bool, true, false, if◌then◌else◌, ◌+◌, ◌-◌, ◌*◌, ◌/◌, ◌%◌, ◌<◌, ◌≤◌, ◌++◌, IsTrue, List, length, map, take, drop, get_or, replicate, slice_index, Option, Some, None, option_map, refl, sym, ap, subst, ◌∙◌, arith}
-use Rattle.std.proofs.Math.Nat.{mul-div-le}
+use Rattle.std.proofs.Common.{◌≡◌, ℕ, Bool, true, false, if◌then◌else◌, ◌+◌, ◌-◌, ◌*◌, ◌/◌, ◌%◌, ◌<◌, ◌≤◌, ◌++◌, IsTrue, List, length, map, take, drop, get_or, replicate, slice_index, Option, Some, None, option_map, refl, sym, ap, subst, inl, inr, ◌∙◌, arith}
+use Rattle.std.proofs.Math.Nat.{mul-div-le, mul-le-mul_right}
 use Rattle.std.specs.List.{range_with_len}
 use Rattle.std.proofs.lemmas.List.{get_or-drop, get_or-replicate, get_or-take, length-replicate, take_at}
 use Rattle.std.proofs.lemmas.List.FromFn.{get_or-map-range_with_len}
 use Rattle.std.specs.Prelude.{◌==◌}
 use Rattle.std.specs.Option.{ForSome}
+use Rattle.std.proofs.lemmas.Bool.{cases_lt}
 use Rattle.std.proofs.lemmas.Option.{same_Some}
 use Rattle.tif_image.specs.Image.{BilevelImage}
 use Rattle.pr_base.specs.Row.{row_size}
@@ -98,6 +99,54 @@ at_row-mask : (n next : ℕ) (mask : Option BilevelImage) → option_map (at_row
 at_row-mask n next None = refl
 at_row-mask n next (Some mask) = refl
 
+-- a cursor over the image at another row
+pub IsOf-row : (art : Art) (image new_image : Cursor) (n : ℕ) → IsOf art image → new_image ≡ record image { next = n } → IsOf art new_image
+IsOf-row art image new_image n is image_is =
+    image_is ∙ ap (λ (cursor : Cursor). record cursor { next = n }) is
+    ∙ ap (λ n. record { shape = shape_of art; bytes = bytes_of art; next = n }) (sym (ap (λ (cursor : Cursor). cursor.next) image_is))
+
+-- and one over the mask
+pub mask_row : (layer : Layer) (image new_image : Cursor) (mask new_mask : Option Cursor) (n : ℕ) → mask ≡ option_map (mask_cursor image.next) layer.mask → new_image ≡ record image { next = n }
+    → new_mask ≡ option_map (at_row n) mask → new_mask ≡ option_map (mask_cursor new_image.next) layer.mask
+mask_row layer image new_image mask new_mask n is image_is mask_is =
+    mask_is ∙ ap (option_map (at_row n)) is ∙ at_row-mask n image.next layer.mask
+    ∙ ap (λ next. option_map (mask_cursor next) layer.mask) (sym (ap (λ (cursor : Cursor). cursor.next) image_is))
+
+-- rows up to one that is not the row read last
+pub rows_before : (next row read : ℕ) → read ≡ next → next ≤ row + 1 → (read ≡ row + 1 → ⊥) → next ≤ row
+rows_before next row read same before other = omega (arith, other)
+
+-- a row of the crop, and its columns, are in the image
+pub crop_rows : (layer : Layer) (image : Cursor) (row : ℕ) → IsLayer layer → IsOf layer.art image → (shape_of layer.art).width ≤ 65535 → (shape_of layer.art).length ≤ 65535
+    → row < layer.crop.y + layer.crop.height
+    → (row < 65535) × (row < image.shape.length) × (layer.crop.x + layer.crop.width ≤ image.shape.width) × (row_length image.shape ≤ 262140)
+crop_rows layer image row fits is wide long below =
+    let shape : shape_of layer.art ≡ image.shape = sym (ap (λ (cursor : Cursor). cursor.shape) is) in
+    let inside : row < (shape_of layer.art).length = omega (arith, fits.rows) in
+    (omega arith, subst (λ (s : Shape). row < s.length) shape inside, subst (λ (s : Shape). layer.crop.x + layer.crop.width ≤ s.width) shape fits.columns,
+    subst (λ (s : Shape). row_length s ≤ 262140) shape (row_most (shape_of layer.art) wide))
+
+-- a layer covers no more columns than the widest page has
+pub most_span : (layer : Layer) (width : ℕ) → width ≤ 65535 → span_of width layer ≤ 65535
+most_span layer width wide = omega arith
+
+below_scaled : (scale n count limit : ℕ) → limit ≤ count * scale → scale * n < limit → n < count
+below_scaled scale n count limit most below =
+    elim (cases_lt n count) [
+      | inl less ↦ less
+      | inr more ↦ absurd (let scaled = mul-le-mul_right scale more in omega arith)
+    ]
+
+-- the columns of the image that show are in the crop
+pub span_columns : (layer : Layer) (width span : ℕ) → span ≡ span_of width layer → (n : ℕ) → layer.scale * n < span → n < layer.crop.width
+span_columns layer width span is n below = below_scaled layer.scale n layer.crop.width span (omega arith) below
+
+-- and each has its mark
+pub scaled_below : (scale n span : ℕ) (marks old_marks admitted old_admitted : List ℕ) → span ≤ length marks * scale → length admitted ≡ span → old_marks ≡ marks → old_admitted ≡ admitted
+    → scale * n < length old_admitted → n < length old_marks
+scaled_below scale n span marks old_marks admitted old_admitted enough long marks_are admitted_are below =
+    subst (λ (list : List ℕ). n < length list) (sym marks_are) (below_scaled scale n (length marks) span enough (subst (λ m. scale * n < m) (ap length admitted_are ∙ long) below))
+
 -- after another row
 pub IsLayerRows-next : (layer : Layer) (width row marks_len admitted_len : ℕ) (painting : Painting) (image new_image : Cursor) (mask new_mask : Option Cursor) (paint new_paint : Planes) (inks : PageInks)
     (marks old_marks new_marks admitted old_admitted new_admitted : List ℕ) (marks_room admitted_room : ℕ)
@@ -111,7 +160,6 @@ pub IsLayerRows-next : (layer : Layer) (width row marks_len admitted_len : ℕ) 
 IsLayerRows-next layer width row marks_len admitted_len painting image new_image mask new_mask paint new_paint inks marks old_marks new_marks admitted old_admitted new_admitted marks_room admitted_room is image_is mask_is
     wide fixed paint_is marks_are marks_len_is marks_long admitted_are admitted_len_is admitted_long bare admits_is =
     let span = span_of width layer in
-    let next : new_image.next ≡ row + 1 = ap (λ (cursor : Cursor). cursor.next) image_is in
     let long : length paint.cyan ≡ span = is.wide.cyan in
     let new_marks_are : length (take marks_len (new_marks ++ drop (length new_marks) marks)) ≡ length marks =
     ap length (take_at new_marks (drop (length new_marks) marks) marks_len (marks_long ∙ marks_len_is)) ∙ marks_long ∙ ap length marks_are in
@@ -122,8 +170,8 @@ IsLayerRows-next layer width row marks_len admitted_len painting image new_image
       layer_is = is.layer_is;
       painting_is = is.painting_is;
       sides = is.sides;
-      image_is = image_is ∙ ap (λ (cursor : Cursor). record cursor { next = row + 1 }) is.image_is ∙ ap (λ n. record { shape = shape_of layer.art; bytes = bytes_of layer.art; next = n }) (sym next);
-      mask_is = mask_is ∙ ap (option_map (at_row (row + 1))) is.mask_is ∙ at_row-mask (row + 1) image.next layer.mask ∙ ap (λ n. option_map (mask_cursor n) layer.mask) (sym next);
+      image_is = IsOf-row layer.art image new_image (row + 1) is.image_is image_is;
+      mask_is = mask_row layer image new_image mask new_mask (row + 1) is.mask_is image_is mask_is;
       wide = subst (HasWidth new_paint) long wide;
       fixed = subst (λ n. new_paint ≡ with_fixed layer.art n new_paint) long fixed;
       admitted_long = ap length written ∙ admitted_long ∙ old_long;

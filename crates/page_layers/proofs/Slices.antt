@@ -6,11 +6,15 @@ use Rattle.page_paint.specs.declared.lay.Painting.{Painting}
 use Rattle.page_paint.specs.Rows.{LaysSpan}
 use Rattle.page_layers.specs.Rows.{IsInkOf}
 
+-- a list that is written whole as a slice
+pub written : (len : ℕ) (items old new : List ℕ) → length old ≡ len → length new ≡ length old → take len (new ++ drop (length new) items) ≡ new
+written len items old new len_is long = take_at new (drop (length new) items) len (long ∙ len_is)
+
 -- what holds of the slice before and after holds of the row
 pub slice_written : (R : List ℕ → List ℕ → Type 0) (len : ℕ) (row items old new : List ℕ) → items ≡ row → old ≡ items → length old ≡ len → length new ≡ length old → R old new
     → R row (take len (new ++ drop (length new) items))
 slice_written R len row items old new row_is old_is len_is long holds =
-    subst (R row) (sym (take_at new (drop (length new) items) len (long ∙ len_is))) (subst (λ list. R list new) (old_is ∙ row_is) holds)
+    subst (R row) (sym (written len items old new len_is long)) (subst (λ list. R list new) (old_is ∙ row_is) holds)
 
 -- the samples of an ink that was read
 pub IsInkOf_read : (is_painted : Bool) (image : Cursor) (y ink first : ℕ) (old new : List ℕ) → length new ≡ length old → new ≡ ink_part image.shape image.bytes y ink first (length old)
