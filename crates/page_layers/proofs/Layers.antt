@@ -4,7 +4,7 @@ use Rattle.std.proofs.Math.Nat.{mul-div-le, mul-le-mul_right}
 use Rattle.std.specs.List.{range_with_len}
 use Rattle.std.proofs.lemmas.List.{get_or-drop, get_or-replicate, get_or-take, length-replicate, take_at}
 use Rattle.std.proofs.lemmas.List.FromFn.{get_or-map-range_with_len}
-use Rattle.std.specs.Prelude.{◌==◌}
+use Rattle.std.specs.Prelude.{◌==◌, ◌&&◌}
 use Rattle.std.specs.Option.{ForSome}
 use Rattle.std.proofs.lemmas.Bool.{cases_lt}
 use Rattle.std.proofs.lemmas.Option.{same_Some}
@@ -18,9 +18,9 @@ use Rattle.page_layers.specs.declared.layer.Layer.{Layer}
 use Rattle.page_paint.specs.declared.lay.Painting.{Painting}
 use Rattle.page_layers.specs.declared.page_inks.PageInks.{PageInks}
 use Rattle.page_layers.specs.Inks.{HasWidth, Planes, inks_at, only, painted_inks}
-use Rattle.page_layers.specs.Layer.{IsLayer, bytes_of, paint_at, shape_of}
+use Rattle.page_layers.specs.Layer.{IsLayer, admits, bytes_of, paint_at, paints_at, shape_of, shows_through}
 use Rattle.page_layers.specs.Reader.{IsOf, at_row, mask_cursor}
-use Rattle.page_layers.specs.Rows.{HasSamples, IsAdmitted, IsInkOf, IsLayerRows, IsPaint, bare_art, fixed_of, is_bare, painting_of, span_of, with_fixed}
+use Rattle.page_layers.specs.Rows.{HasSamples, IsAdmitted, IsInkOf, IsLayerRows, IsMarked, IsPaint, IsStretched, bare_art, fixed_of, is_bare, no_mask, painting_of, span_of, with_fixed}
 use Rattle.page_layers.proofs.Only.{only-five}
 
 -- a row of an image has at most four bytes for each of its pixels
@@ -185,6 +185,35 @@ IsLayerRows-next layer width row marks_len admitted_len painting image new_image
       marks_wide = is.marks_wide;
       admitted_wide = is.admitted_wide;
     }
+
+-- every pixel of a contone image without a mask shows
+pub IsAdmitted-bare : (layer : Layer) (row span : ℕ) (admitted : List ℕ) → is_bare layer ≡ true → admitted ≡ replicate span 255 → IsAdmitted layer row span admitted
+IsAdmitted-bare layer row span admitted bare is = record {
+  each = λ j below.
+      ap (λ list. get_or list j 0) is ∙ get_or-replicate span j 255 0 below ∙ sym (ap (λ test. if test then 255 else 0) (cases layer.art layer.mask (layer.crop.x + j / layer.scale) bare));
+}
+  where
+    cases : (art : Art) (mask : Option BilevelImage) (column : ℕ) → (if no_mask mask then bare_art art else false) ≡ true → (paints_at art column row && shows_through mask column row) ≡ true
+    cases (Contone image) None column is = refl
+    cases (Line image inks) None column is = absurd (cc)
+    cases art (Some mask) column is = absurd (cc)
+
+-- at scale 1 the marks of the image's columns are those of the page's
+pub IsAdmitted-once : (layer : Layer) (row span : ℕ) (marks : List ℕ) → layer.scale ≡ 1 → IsMarked (λ n. admits layer (layer.crop.x + n) row) (λ n. 255) span marks → IsAdmitted layer row span marks
+IsAdmitted-once layer row span marks one marked = record {
+  each = λ j below.
+      let same : j ≡ j / layer.scale = rw one (omega arith) in
+      marked.each j below ∙ ap (λ n. if admits layer (layer.crop.x + n) row then 255 else 0) same;
+}
+
+-- and else each is repeated
+pub IsAdmitted-stretched : (layer : Layer) (row span count : ℕ) (marks admitted : List ℕ) → IsMarked (λ n. admits layer (layer.crop.x + n) row) (λ n. 255) count marks
+    → IsStretched marks 1 layer.scale span admitted → ((n : ℕ) → layer.scale * n < span → n < count) → IsAdmitted layer row span admitted
+IsAdmitted-stretched layer row span count marks admitted marked stretched enough = record {
+  each = λ j below.
+      let same : 1 * (j / layer.scale) ≡ j / layer.scale = omega arith in
+      stretched.each j below ∙ ap (λ n. get_or marks n 0) same ∙ marked.each (j / layer.scale) (enough (j / layer.scale) (omega (arith, mul-div-le j layer.scale)));
+}
 
 -- paint of linework has its inks at each column
 pub line_paint : (inks : List Bool) (image : BilevelImage) (values : List ℕ) (first scale row span : ℕ) (paint : Planes) → paint ≡ with_fixed (Line image values) span paint → IsPaint inks (Line image values) first scale row span paint
