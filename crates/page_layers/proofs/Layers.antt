@@ -122,14 +122,18 @@ pub crop_rows : (layer : Layer) (image : Cursor) (row : ℕ) → IsLayer layer �
     → (row < 65535) × (row < image.shape.length) × (layer.crop.x + layer.crop.width ≤ image.shape.width) × (row_length image.shape ≤ 262140)
 crop_rows layer image row fits is wide long below =
     let shape : shape_of layer.art ≡ image.shape = sym (ap (λ (cursor : Cursor). cursor.shape) is) in
-    let inside : row < (shape_of layer.art).length = omega (arith, fits.rows) in
-    (omega arith, subst (λ (s : Shape). row < s.length) shape inside, subst (λ (s : Shape). layer.crop.x + layer.crop.width ≤ s.width) shape fits.columns,
-    subst (λ (s : Shape). row_length s ≤ 262140) shape (row_most (shape_of layer.art) wide))
+    let inside : row < (shape_of layer.art).length = omega (arith, fits.rows) in (
+      omega arith,
+      subst (λ (s : Shape). row < s.length) shape inside,
+      subst (λ (s : Shape). layer.crop.x + layer.crop.width ≤ s.width) shape fits.columns,
+      subst (λ (s : Shape). row_length s ≤ 262140) shape (row_most (shape_of layer.art) wide),
+    )
 
 -- a layer covers no more columns than the widest page has
 pub most_span : (layer : Layer) (width : ℕ) → width ≤ 65535 → span_of width layer ≤ 65535
 most_span layer width wide = omega arith
 
+-- a number that the scale takes below a multiple of it
 below_scaled : (scale n count limit : ℕ) → limit ≤ count * scale → scale * n < limit → n < count
 below_scaled scale n count limit most below =
     elim (cases_lt n count) [

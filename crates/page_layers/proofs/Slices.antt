@@ -19,12 +19,12 @@ slice_written R len row items old new row_is old_is len_is long holds =
 -- the samples of an ink that was read
 pub IsInkOf_read : (is_painted : Bool) (image : Cursor) (y ink first : ℕ) (old new : List ℕ) → length new ≡ length old → new ≡ ink_part image.shape image.bytes y ink first (length old)
     → IsInkOf is_painted image y ink first old new
-IsInkOf_read is_painted image y ink first old new long is = record { long = long; samples = λ on. is; }
+IsInkOf_read is_painted image y ink first old new long is = record { long = long; samples = λ on. is }
 
 -- an ink that is not painted keeps its row
 pub IsInkOf_kept : (is_painted : Bool) (image : Cursor) (y ink first : ℕ) (row items : List ℕ) → not is_painted ≡ true → items ≡ row → IsInkOf is_painted image y ink first row items
 IsInkOf_kept true image y ink first row items off same = absurd (cc)
-IsInkOf_kept false image y ink first row items off same = record { long = ap length same; samples = λ on. absurd (cc); }
+IsInkOf_kept false image y ink first row items off same = record { long = ap length same; samples = λ on. absurd (cc) }
 
 -- paint over the slice is paint over the row, by equal names of how it is painted and of the paint
 pub LaysSpan_written : (painting own : Painting) (from len : ℕ) (paint own_paint admitted row items old new : List ℕ) → items ≡ row → old ≡ items → length old ≡ len → own ≡ painting → own_paint ≡ paint
