@@ -1,17 +1,27 @@
 -- The items of a list, one at a time.
 use Rattle.std.proofs.Common.{◌≡◌, ℕ, suc, ◌+◌, ◌<◌, ◌≤◌, List, [], ◌∷◌, ◌++◌, length, get_or, drop, Ok, refl, sym, ap, subst, ◌∙◌, drop-cons, add-one, arith}
 use Rattle.std.proofs.Math.ListN.{drop_of_length-le}
+use Rattle.std.proofs.lemmas.Bool.{le-leb}
+use Rattle.serde_json.specs.Data.{Data}
 use Rattle.serde_json.specs.View.{view, items_view}
 use Rattle.serde_json.specs.declared.value.Value.{Value}
 use Rattle.plan_parts.specs.declared.fault.PlanFault.{PlanFault}
 use Rattle.plan_parts.specs.declared.fault.PlanFault.TheVariants.{Missing, Kind, Range, Unknown, Repeat, Memory, NotJson}
 use Rattle.plan_parts.specs.Gives.{Fails}
 use Rattle.plan_parts.proofs.Sound.{each_keeps}
-use Rattle.plan_parts.specs.Reading.{Read, Reader, ◌>>=◌, at_item, count_of, each_after}
+use Rattle.plan_parts.specs.Reading.{Read, Reader, ◌>>=◌, at_item, count_of, items_in, items_within, each_after}
 
 pub count_view : (vs : List Value) → count_of (items_view vs) ≡ length vs
 count_view [] = refl
 count_view (v ∷ vs) = ap suc (count_view vs)
+
+-- a list of a length within the bounds is read
+pub items_within-read : (low high : ℕ) (path : List ℕ) (d : Data) (vs : List Value)
+    → items_in path d ≡ Ok (items_view vs) → low ≤ length vs → length vs ≤ high
+    → items_within low high path d ≡ Ok (items_view vs)
+unfolding items_within
+items_within-read low high path d vs read least most =
+    rw (read, count_view vs, le-leb low (length vs) least, le-leb (length vs) high most) refl
 
 -- where a step fails, the steps after it fail with the same fault
 pub fails_then : {A B : Type 0} (fault : PlanFault) (read : Read A) (rest : A → Read B) → Fails fault read

@@ -91,12 +91,9 @@ fn screen_named(tiles: &[PlanTile], node: Node<'_>, s: &str) -> Result<Screen, P
     if s == "diffuse" {
         return Ok(Screen::Diffuse);
     }
-    let Some(name) = own_name(s) else {
-        return Err(PlanFault::Range(node.path()?));
-    };
-    match index_of(tiles, name) {
-        Some(tile) => Ok(Screen::Own(tile)),
-        None => Err(PlanFault::Unknown(node.path()?)),
+    match own_name(s) {
+        Some(name) => own_screen(tiles, node, name),
+        None => Err(PlanFault::Range(node.path()?)),
     }
 }
 
@@ -106,6 +103,17 @@ fn own_name(s: &str) -> Option<&str>
         ≡ (if starts_with nat_eq s.now (codes "tile:") then Some (drop 5 s.now) else None) }
 {
     s.strip_prefix("tile:")
+}
+
+// Returns the screen by the tile with this name.
+fn own_screen(tiles: &[PlanTile], node: Node<'_>, name: &str) -> Result<Screen, PlanFault>
+    ensures { Gives (λ s. s) result
+        (at node.entry (λ path _. spec.own_screen (spec.tile_names tiles.now) path name.now)) }
+{
+    match index_of(tiles, name) {
+        Some(tile) => Ok(Screen::Own(tile)),
+        None => Err(PlanFault::Unknown(node.path()?)),
+    }
 }
 
 // Reads the screen of an ink.
