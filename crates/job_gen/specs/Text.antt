@@ -3,6 +3,9 @@ use Rattle.std.specs.Prelude.{ℕ, ◌*◌, ◌%◌, ◌==◌, Bool, true, if◌
 use Rattle.std.specs.List.{range_with_len}
 use Rattle.serde_json.specs.Data.{Data, Items, Members, array, item, no_items, no_members, number, object}
 use Rattle.serde_json.specs.Data.{put, string, unsigned}
+use Rattle.std.proofs.Common.{Bor}
+use Rattle.job_gen.specs.declared.members.Primitive.{Primitive}
+use Rattle.job_gen.specs.declared.members.Primitive.TheVariants.{Text, Number}
 use Rattle.job_gen.specs.Numbers.{page_count, site_count, size_of}
 use Rattle.job_gen.specs.Plan.{is_colour, line_file, mask_file, other_file, other_name, page_file, page_name}
 use Rattle.job_gen.specs.Plan.{site_name}
@@ -27,6 +30,19 @@ put_all members (m ∷ ms) = put_all (put m.0 m.1 members) ms
 -- an object with these members
 abbrev pub object_of : List (List ℕ × Data) → Data
 object_of ms = object (put_all no_members ms)
+
+-- an object with these members and one more
+abbrev pub object_with : List (List ℕ × Data) → List ℕ → Data → Data
+object_with ms key d = object (put key d (put_all no_members ms))
+
+-- a text or a number
+abbrev pub value_of : Primitive → Data
+value_of (Text text) = string text.now
+value_of (Number n) = whole n
+
+-- members whose values are texts and numbers
+abbrev pub members_of : List (Bor (List ℕ) × Primitive) → List (List ℕ × Data)
+members_of members = map (λ member. (member.0.now, value_of member.1)) members
 
 -- ---- pages
 

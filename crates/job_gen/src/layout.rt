@@ -6,30 +6,41 @@ ghost use Rattle.job_gen.specs.Text.{other_page_value, page_value, pages_value, 
 ghost use Rattle.job_gen.specs.Text.{sections_value, site_value, sites_value, zones_value};
 ghost use Rattle.serde_json.specs.View.{view};
 
+use crate::members::Primitive::{Number, Text};
+use crate::members::{list_of_one, object, object_with};
 use crate::names::{LINE_FILE, MASK_FILE, OTHER_FILE, OTHER_NAME, page_file, page_name, site_name};
 use pr_base::NoMemory;
-use serde_json::{Value, json};
+use serde_json::Value;
 use std::alloc::Global;
 
 /// Returns the layer of an image.
 fn image_layer(alloc: Global, file: &str) -> Result<Value, NoMemory>
     ensures { IfOk result (λ value. view value ≡ image_layer_value file.now) }
 {
-    Ok(json!(in alloc; {"kind": "contone", "file": file, "scale": 4u32})?)
+    object(
+        alloc,
+        &[
+            ("kind", Text("contone")),
+            ("file", Text(file)),
+            ("scale", Number(4)),
+        ],
+    )
 }
 
 /// Returns the layer of the linework.
 fn line_layer(alloc: Global) -> Result<Value, NoMemory>
     ensures { IfOk result (λ value. view value ≡ line_layer_value) }
 {
-    let layer = json!(in alloc; {
-        "kind": "line",
-        "file": LINE_FILE,
-        "mask": MASK_FILE,
-        "scale": 4u32,
-        "paint": "overprint",
-    });
-    Ok(layer?)
+    object(
+        alloc,
+        &[
+            ("kind", Text("line")),
+            ("file", Text(LINE_FILE)),
+            ("mask", Text(MASK_FILE)),
+            ("scale", Number(4)),
+            ("paint", Text("overprint")),
+        ],
+    )
 }
 
 /// Returns a page with these layers.
@@ -37,7 +48,8 @@ fn page(alloc: Global, name: &str, colour: bool, layers: Vec<Value>) -> Result<V
     ensures { IfOk result (λ value. view value ≡ page_value name.now colour (map view layers.items)) }
 {
     let inks = if colour { "CMYK" } else { "K" };
-    Ok(json!(in alloc; {"name": name, "inks": inks, "layers": layers})?)
+    let members = [("name", Text(name)), ("inks", Text(inks))];
+    object_with(alloc, &members, "layers", Value::Array(layers))
 }
 
 /// Returns the layers of page `j`.
@@ -114,17 +126,23 @@ pub(crate) fn sections(alloc: Global, pages: u32) -> Result<Value, NoMemory>
     requires { pages ≤ 8 }
     ensures { IfOk result (λ value. view value ≡ list_of (sections_value pages)) }
 {
-    let names = page_names(alloc, pages)?;
-    Ok(json!(in alloc; [{"name": "A", "pages": names}])?)
+    let names = Value::Array(page_names(alloc, pages)?);
+    let section = object_with(alloc, &[("name", Text("A"))], "pages", names)?;
+    list_of_one(alloc, section)
 }
 
 /// Returns the list of the one zone.
 pub(crate) fn zones(alloc: Global) -> Result<Value, NoMemory>
     ensures { IfOk result (λ value. view value ≡ list_of zones_value) }
 {
-    Ok(
-        json!(in alloc; [{"name": "Z", "replace": [{"section": "A", "page": 1u32, "with": OTHER_NAME}]}])?,
-    )
+    let members = [
+        ("section", Text("A")),
+        ("page", Number(1)),
+        ("with", Text(OTHER_NAME)),
+    ];
+    let replace = list_of_one(alloc, object(alloc, &members)?)?;
+    let zone = object_with(alloc, &[("name", Text("Z"))], "replace", replace)?;
+    list_of_one(alloc, zone)
 }
 
 /// Returns site `i`.
@@ -133,9 +151,9 @@ fn site(alloc: Global, i: u32) -> Result<Value, NoMemory>
 {
     let name = site_name(alloc, i)?;
     if i % 2 == 1 {
-        Ok(json!(in alloc; {"name": name, "zone": "Z"})?)
+        object(alloc, &[("name", Text(name.as_str())), ("zone", Text("Z"))])
     } else {
-        Ok(json!(in alloc; {"name": name})?)
+        object(alloc, &[("name", Text(name.as_str()))])
     }
 }
 

@@ -6,6 +6,7 @@ mod files;
 mod images;
 mod job;
 mod layout;
+mod members;
 mod names;
 mod numbers;
 mod text;

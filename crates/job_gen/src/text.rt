@@ -7,9 +7,11 @@ ghost use Rattle.plan_json.specs.PlanOf.{plan_of};
 ghost use Rattle.serde_json.specs.View.{members_view, view};
 
 use crate::layout::{pages, sections, sites, zones};
+use crate::members::Primitive::{Number, Text};
+use crate::members::{list_of_one, object, put_members};
 use crate::numbers::{page_count, site_count, size};
 use pr_base::NoMemory;
-use serde_json::{Map, Value, json, put};
+use serde_json::{Map, Value, put};
 use std::alloc::Global;
 
 /// Returns the text of the plan of job `n`.
@@ -24,14 +26,29 @@ pub(crate) fn plan_text(alloc: Global, n: u32) -> Result<String, NoMemory>
 fn screens(alloc: Global) -> Result<Value, NoMemory>
     ensures { IfOk result (λ value. view value ≡ screens_value) }
 {
-    Ok(json!(in alloc; {"C": "bayer4", "M": "bayer8", "Y": "bayer16", "K": "diffuse"})?)
+    object(
+        alloc,
+        &[
+            ("C", Text("bayer4")),
+            ("M", Text("bayer8")),
+            ("Y", Text("bayer16")),
+            ("K", Text("diffuse")),
+        ],
+    )
 }
 
 /// Returns the mark in the plate's corner.
 fn marks(alloc: Global) -> Result<Value, NoMemory>
     ensures { IfOk result (λ value. view value ≡ list_of marks_value) }
 {
-    Ok(json!(in alloc; [{"inks": "CMYK", "x": 0u32, "y": 0u32, "w": 4u32, "h": 4u32}])?)
+    let members = [
+        ("inks", Text("CMYK")),
+        ("x", Number(0)),
+        ("y", Number(0)),
+        ("w", Number(4)),
+        ("h", Number(4)),
+    ];
+    list_of_one(alloc, object(alloc, &members)?)
 }
 
 /// Returns a list of numbers.
@@ -52,9 +69,12 @@ fn put_printing(alloc: Global, size: u32, plan: &mut Map<String, Value>) -> Resu
     ensures { OnOk result (members_view plan.new.entries
         ≡ put_all (members_view plan.old.entries) (printing_members size)) }
 {
-    put(plan, alloc, "plan", Value::from(1u32))?;
-    put(plan, alloc, "edition", Value::try_from_str(alloc, "DRILL")?)?;
-    put(plan, alloc, "dpi", Value::from(1200u32))?;
+    let first = [
+        ("plan", Number(1)),
+        ("edition", Text("DRILL")),
+        ("dpi", Number(1200)),
+    ];
+    put_members(alloc, &first, plan)?;
     put(
         plan,
         alloc,
@@ -62,8 +82,11 @@ fn put_printing(alloc: Global, size: u32, plan: &mut Map<String, Value>) -> Resu
         numbers(alloc, &[64 * size, 48 * size])?,
     )?;
     put(plan, alloc, "margins", numbers(alloc, &[8, 8, 8, 8])?)?;
-    put(plan, alloc, "gutter", Value::from(16u32))?;
-    put(plan, alloc, "limit", Value::from(612u32))?;
+    put_members(
+        alloc,
+        &[("gutter", Number(16)), ("limit", Number(612))],
+        plan,
+    )?;
     put(plan, alloc, "screens", screens(alloc)?)?;
     put(plan, alloc, "marks", marks(alloc)?)?;
     Ok(())
