@@ -63,7 +63,6 @@ fn numbers(alloc: Global, all: &[u32]) -> Result<Value, NoMemory>
 }
 
 /// Adds the members for printing: sizes, resolution, screens and marks.
-#[tactic(auto, unfolding(crate::specs::Text::printing_members))]
 fn put_printing(alloc: Global, size: u32, plan: &mut Map<String, Value>) -> Result<(), NoMemory>
     requires { size ≤ 16 }
     ensures { OnOk result (members_view plan.new.entries
