@@ -1,9 +1,10 @@
 -- The keys lines printed from a run's counts are those of its job.
-use Rattle.std.proofs.Common.{◌≡◌, ◌<◌, ◌+◌, ◌++◌, ◌∙◌, ℕ, List, [], ◌∷◌, suc, Some, All, length, map, get_or, refl, sym, ap, subst, arith}
+use Rattle.std.proofs.Common.{◌≡◌, ◌<◌, ◌≤◌, ◌+◌, ◌++◌, ◌∙◌, ℕ, List, [], ◌∷◌, suc, Some, All, length, map, drop, get_or, refl, sym, ap, subst, append_assoc, drop-cons, add-one, arith}
 use Rattle.std.specs.Prelude.{codes, slice_get, slice_index}
 use Rattle.std.specs.Fmt.{digits}
 use Rattle.std.specs.List.{enumerate_from, flat_map, range_with_len}
-use Rattle.std.proofs.lemmas.List.{ext_get_or}
+use Rattle.std.proofs.Math.ListN.{drop_of_length-le}
+use Rattle.std.proofs.lemmas.List.{append-nil, ext_get_or}
 use Rattle.std.proofs.lemmas.List.FromFn.{get_or-map-range_with_len, length-map-range_with_len}
 use Rattle.std.proofs.lemmas.List.Elements.{All-contains_itself, All-head, All-tail}
 use Rattle.pr_base.specs.declared.ink.Ink.{Ink}
@@ -18,6 +19,20 @@ use Rattle.ink_keys.specs.Counts.{CountsData, number_at}
 use Rattle.ink_keys.specs.Keys.{key_count}
 use Rattle.ink_keys.specs.Plates.{AreKeyCounts}
 use Rattle.cmd_run.specs.Keys.{group_lines, key_counts, key_line, lines_with, numbers_at, numbers_for, plate_line}
+
+-- a text with the pieces that are left is the whole: one piece more, and none left
+module _ {X : Type 0} (f : X → List ℕ) (xs : List X) (whole : List ℕ) where
+  pub pieces_more : (i : ℕ) (d : X) (old new piece : List ℕ) → i < length xs → old ++ flat_map f (drop i xs) ≡ whole
+      → new ≡ old ++ piece → piece ≡ f (get_or xs i d) → new ++ flat_map f (drop (i + 1) xs) ≡ whole
+  pieces_more i d old new piece less before grown is =
+      let rest = flat_map f (drop (i + 1) xs) in
+      let next : drop i xs ≡ get_or xs i d ∷ drop (i + 1) xs = rw add-one (drop-cons xs i d less) in
+      ap (λ (l : List ℕ). l ++ rest) (grown ∙ ap (λ (l : List ℕ). old ++ l) is) ∙ append_assoc old (f (get_or xs i d)) rest
+      ∙ ap (λ (l : List X). old ++ flat_map f l) (sym next) ∙ before
+
+  pub pieces_all : (i : ℕ) (text : List ℕ) → length xs ≤ i → text ++ flat_map f (drop i xs) ≡ whole → text ≡ whole
+  pieces_all i text all before =
+      sym (append-nil text) ∙ ap (λ (l : List X). text ++ flat_map f l) (sym (drop_of_length-le xs all)) ∙ before
 
 -- each group of a plan belongs to one of its sections
 pub sections_within : (plan : PlanData) (groups : List Group) → IsPlan plan → groups ≡ groups_of plan
