@@ -37,6 +37,14 @@ unfolding index_of
 shown-index_of [] s = refl
 shown-index_of (k ∷ keys) s = ap (λ n. cond (not (bytes_eq s k.now)) (1 + n) 0) (shown-index_of keys s)
 
+-- one more text
+pub text-more : (names : List (Bor (List ℕ))) (d : Bor (List ℕ)) (i : ℕ) (before : Texts) (text : List ℕ)
+    → i < length names → before ≡ texts (take i names) → text ≡ (get_or names i d).now
+    → before ++ text ∷ [] ≡ texts (take (i + 1) names)
+text-more names d i before text less is next =
+    ap (λ all. all ++ text ∷ []) is ∙ ap (λ one. texts (take i names) ++ one ∷ []) next
+    ∙ sym (map-push (λ (s : Bor (List ℕ)). s.now) (take i names) (get_or names i d)) ∙ sym (ap texts (take_more names i d less))
+
 -- ---- indexes that do not change
 
 pub known_below : (files : Texts) (s : List ℕ) → Known files s → index_of files s < length files
