@@ -1,9 +1,9 @@
--- Lists of values that grow by one entry.
+-- Lists of values, and members, that grow by one entry.
 use Rattle.std.proofs.Common.{◌≡◌, ℕ, ◌+◌, ◌<◌, List, [], ◌∷◌, ◌++◌, Vec, Global, length, map, take, get_or, refl, sym, ap, ◌∙◌}
 use Rattle.std.specs.List.{range_with_len}
 use Rattle.std.proofs.lemmas.List.{map-append, take_more}
 use Rattle.std.proofs.lemmas.List.FromFn.{map-range_with_len_more}
-use Rattle.serde_json.specs.Data.{Data, array, item}
+use Rattle.serde_json.specs.Data.{Data, Members, array, item, put}
 use Rattle.serde_json.specs.View.{view, items_of as shown_items}
 use Rattle.serde_json.specs.declared.value.Value.{Value}
 use Rattle.serde_json.specs.declared.value.Value.TheVariants.{Array}
@@ -32,3 +32,8 @@ items_are (d ∷ ds) = ap (item d) (items_are ds)
 -- the value of a list
 pub list_is : (ds : List Data) (values : Vec Value Global) → map view values.items ≡ ds → view (Array values) ≡ list_of ds
 list_is ds values e = view-Array values ∙ ap (λ shown. array (shown_items shown)) e ∙ ap array (items_are ds)
+
+-- one more member
+pub member_more : (key : List ℕ) (d e : Data) (before old new : Members) → new ≡ put key e old → e ≡ d → old ≡ before
+    → new ≡ put key d before
+member_more key d e before old new grown is same = grown ∙ ap (λ (one : Data). put key one old) is ∙ ap (put key d) same

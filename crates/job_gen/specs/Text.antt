@@ -4,8 +4,8 @@ use Rattle.std.specs.List.{range_with_len}
 use Rattle.serde_json.specs.Data.{Data, Items, Members, array, item, no_items, no_members, number, object}
 use Rattle.serde_json.specs.Data.{put, string, unsigned}
 use Rattle.std.proofs.Common.{Bor}
-use Rattle.job_gen.specs.declared.members.Primitive.{Primitive}
-use Rattle.job_gen.specs.declared.members.Primitive.TheVariants.{Text, Number}
+use Rattle.job_gen.specs.declared.members.Plain.{Plain}
+use Rattle.job_gen.specs.declared.members.Plain.TheVariants.{Text, Number, Numbers}
 use Rattle.job_gen.specs.Numbers.{page_count, site_count, size_of}
 use Rattle.job_gen.specs.Plan.{is_colour, line_file, mask_file, other_file, other_name, page_file, page_name}
 use Rattle.job_gen.specs.Plan.{site_name}
@@ -35,13 +35,14 @@ object_of ms = object (put_all no_members ms)
 abbrev pub object_with : List (List ℕ × Data) → List ℕ → Data → Data
 object_with ms key d = object (put key d (put_all no_members ms))
 
--- a text or a number
-abbrev pub value_of : Primitive → Data
+-- a text, a number or a list of numbers
+abbrev pub value_of : Plain → Data
 value_of (Text text) = string text.now
 value_of (Number n) = whole n
+value_of (Numbers all) = list_of (map whole all.now)
 
--- members whose values are texts and numbers
-abbrev pub members_of : List (Bor (List ℕ) × Primitive) → List (List ℕ × Data)
+-- members with such values
+abbrev pub members_of : List (Bor (List ℕ) × Plain) → List (List ℕ × Data)
 members_of members = map (λ member. (member.0.now, value_of member.1)) members
 
 -- ---- pages

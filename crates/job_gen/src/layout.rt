@@ -6,7 +6,7 @@ ghost use Rattle.job_gen.specs.Text.{other_page_value, page_value, pages_value, 
 ghost use Rattle.job_gen.specs.Text.{sections_value, site_value, sites_value, zones_value};
 ghost use Rattle.serde_json.specs.View.{view};
 
-use crate::members::Primitive::{Number, Text};
+use crate::members::Plain::{Number, Text};
 use crate::members::{list_of_one, object, object_with};
 use crate::names::{LINE_FILE, MASK_FILE, OTHER_FILE, OTHER_NAME, page_file, page_name, site_name};
 use pr_base::NoMemory;

@@ -1,13 +1,13 @@
 // The JSON text of a job's plan.
-ghost use Rattle.std.specs.Prelude.{◌≡◌, ◌≤◌, IfOk, Ok, OnOk, map, string_bytes};
+ghost use Rattle.std.specs.Prelude.{◌≡◌, ◌≤◌, IfOk, Ok, OnOk, string_bytes};
 ghost use Rattle.job_gen.specs.Plan.{job_plan};
 ghost use Rattle.job_gen.specs.Text.{job_value, layout_members, list_of, marks_value, printing_members};
-ghost use Rattle.job_gen.specs.Text.{put_all, screens_value, value_with, whole};
+ghost use Rattle.job_gen.specs.Text.{put_all, screens_value, value_with};
 ghost use Rattle.plan_json.specs.PlanOf.{plan_of};
 ghost use Rattle.serde_json.specs.View.{members_view, view};
 
 use crate::layout::{pages, sections, sites, zones};
-use crate::members::Primitive::{Number, Text};
+use crate::members::Plain::{Number, Numbers, Text};
 use crate::members::{list_of_one, object, put_members};
 use crate::numbers::{page_count, site_count, size};
 use pr_base::NoMemory;
@@ -51,17 +51,6 @@ fn marks(alloc: Global) -> Result<Value, NoMemory>
     list_of_one(alloc, object(alloc, &members)?)
 }
 
-/// Returns a list of numbers.
-fn numbers(alloc: Global, all: &[u32]) -> Result<Value, NoMemory>
-    ensures { IfOk result (λ value. view value ≡ list_of (map whole all.now)) }
-{
-    let mut values = Vec::new(alloc);
-    for n in all {
-        values.push(Value::from(*n))?;
-    }
-    Ok(Value::Array(values))
-}
-
 /// Adds the members for printing: sizes, resolution, screens and marks.
 fn put_printing(alloc: Global, size: u32, plan: &mut Map<String, Value>) -> Result<(), NoMemory>
     requires { size ≤ 16 }
@@ -72,20 +61,12 @@ fn put_printing(alloc: Global, size: u32, plan: &mut Map<String, Value>) -> Resu
         ("plan", Number(1)),
         ("edition", Text("DRILL")),
         ("dpi", Number(1200)),
+        ("page", Numbers(&[64 * size, 48 * size])),
+        ("margins", Numbers(&[8, 8, 8, 8])),
+        ("gutter", Number(16)),
+        ("limit", Number(612)),
     ];
     put_members(alloc, &first, plan)?;
-    put(
-        plan,
-        alloc,
-        "page",
-        numbers(alloc, &[64 * size, 48 * size])?,
-    )?;
-    put(plan, alloc, "margins", numbers(alloc, &[8, 8, 8, 8])?)?;
-    put_members(
-        alloc,
-        &[("gutter", Number(16)), ("limit", Number(612))],
-        plan,
-    )?;
     put(plan, alloc, "screens", screens(alloc)?)?;
     put(plan, alloc, "marks", marks(alloc)?)?;
     Ok(())

@@ -2,7 +2,7 @@ use Rattle.std.proofs.Common.{map, ap, ◌∙◌}
 use Rattle.std.proofs.lemmas.List.{take_all}
 use Rattle.job_gen.specs.Text.{whole}
 use Rattle.job_gen.proofs.Listed.{list_is, numbers_more}
-use Rattle.job_gen.proofs.text.numbers.Goals as goal
+use Rattle.job_gen.proofs.members.numbers.Goals as goal
 
 pub loop-n-preserved : goal.loop-n-preserved
 loop-n-preserved c =
