@@ -1,14 +1,70 @@
-use Rattle.std.proofs.Common.{◌≡◌, ◌+◌, ◌≤◌, ◌++◌, length, ap, ◌∙◌, arith}
-use Rattle.std.proofs.lemmas.List.{length-append}
-use Rattle.pr_ports.proofs.Offsets.{consumes_more}
+use Rattle.std.proofs.Common.{refl, ◌∙◌, arith}
+use Rattle.std.proofs.lemmas.Result.{IfOk-from_err}
+use Rattle.pr_ports.proofs.Readers.{come_long, joined_kept, joined_longer, joined_more, joined_most, joined_nothing, joined_whole, not_too_long}
 use Rattle.pr_ports.proofs.host_shelf.read_on.Goals as goal
+
+pub pieces-init : goal.pieces-init
+pieces-init g c = record {
+  short = c.requires;
+  came = joined_nothing _ c.args.bytes.items;
+  count = refl;
+}
+
+pub returns-in_err-count-clause-told : goal.returns-in_err-count-clause-told
+returns-in_err-count-clause-told g c =
+    not_too_long c.from_residual.result c.in_err-count.field-0.0 _ c.from_residual.ensures.1 c.in_err-count.ensures.short
+
+pub returns-in_err-count-clause-longer : goal.returns-in_err-count-clause-longer
+returns-in_err-count-clause-longer g c =
+    not_too_long c.from_residual.result c.in_err-count.field-0.0 _ c.from_residual.ensures.1 c.in_err-count.ensures.short
+
+pub returns-in_err-count-clause-whole : goal.returns-in_err-count-clause-whole
+returns-in_err-count-clause-whole g c = IfOk-from_err c.from_residual.result _ c.from_residual.ensures.0
+
+pub returns-in_err-count-clause-within : goal.returns-in_err-count-clause-within
+returns-in_err-count-clause-within g c = IfOk-from_err c.from_residual.result _ c.from_residual.ensures.0
+
+pub returns-in_err-count-clause-most : goal.returns-in_err-count-clause-most
+returns-in_err-count-clause-most g c =
+    joined_most _ _ c.args.bytes.items c.pieces.bytes.items c.args.limit
+    (joined_kept _ _ _ c.args.bytes.items c.pieces.bytes.items c.pieces.invariant.came c.in_err-count.ensures.kept) (omega (arith, c.pieces.invariant.short))
+
+pub returns-then-count-eq0-clause-whole : goal.returns-then-count-eq0-clause-whole
+returns-then-count-eq0-clause-whole g c =
+    let piece = c.in_ok-count.ensures.came in
+    joined_whole _ _ c.args.bytes.items c.read_piece.new.bytes.items
+    (joined_more _ _ _ c.args.bytes.items c.pieces.bytes.items c.read_piece.new.bytes.items _ c.pieces.invariant.came piece) (piece.end c.if-count-eq0.true)
+
+pub returns-then-count-eq0-clause-most : goal.returns-then-count-eq0-clause-most
+returns-then-count-eq0-clause-most g c =
+    let piece = c.in_ok-count.ensures.came in
+    let long = come_long _ _ c.pieces.bytes.items c.read_piece.new.bytes.items _ piece in
+    joined_most _ _ c.args.bytes.items c.read_piece.new.bytes.items c.args.limit
+    (joined_more _ _ _ c.args.bytes.items c.pieces.bytes.items c.read_piece.new.bytes.items _ c.pieces.invariant.came piece)
+    (omega (arith, long, c.pieces.invariant.short, c.if-count-eq0.true))
 
 pub returns-then-count-room-clause-most : goal.returns-then-count-room-clause-most
 returns-then-count-room-clause-most g c =
-    let before = c.pieces.invariant.came in
     let piece = c.in_ok-count.ensures.came in
-    let all : length (before.0 ++ piece.came) ≡ length before.0 + c.in_ok-count.count = length-append before.0 piece.came ∙ ap (λ n. length before.0 + n) piece.long in
-    let read : length c.pieces.bytes.items ≡ length c.args.bytes.items + length before.0 = ap length before.2 ∙ length-append c.args.bytes.items before.0 in
-    let most : c.in_ok-count.count ≤ c.piece_len-most.result = c.in_ok-count.ensures.within in
-    let room = c.piece_len-most.ensures.within in
-    (before.0 ++ piece.came, consumes_more _ _ _ before.0 piece.came before.1 piece.given, omega (arith, all, read, most, room))
+    let long = come_long _ _ c.pieces.bytes.items c.read_piece.new.bytes.items _ piece in
+    joined_most _ _ c.args.bytes.items c.read_piece.new.bytes.items c.args.limit
+    (joined_more _ _ _ c.args.bytes.items c.pieces.bytes.items c.read_piece.new.bytes.items _ c.pieces.invariant.came piece)
+    (omega (arith, long, c.in_ok-count.ensures.within, c.piece_len-most.ensures.within, c.pieces.invariant.short, c.len.ensures))
+
+pub returns-then-count-room-clause-longer : goal.returns-then-count-room-clause-longer
+returns-then-count-room-clause-longer g c =
+    let piece = c.in_ok-count.ensures.came in
+    let long = come_long _ _ c.pieces.bytes.items c.read_piece.new.bytes.items _ piece in
+    joined_longer _ _ c.args.bytes.items c.read_piece.new.bytes.items c.args.limit
+    (joined_more _ _ _ c.args.bytes.items c.pieces.bytes.items c.read_piece.new.bytes.items _ c.pieces.invariant.came piece)
+    (omega (arith, long, c.if-count-room.true, c.pieces.invariant.short, c.len.ensures))
+
+pub pieces-preserved : goal.pieces-preserved
+pieces-preserved g c =
+    let piece = c.in_ok-count.ensures.came in
+    let long = come_long _ _ c.pieces.bytes.items c.read_piece.new.bytes.items _ piece in
+    record {
+      short = omega (arith, long, c.if-count-room.false, c.pieces.invariant.short, c.len.ensures);
+      came = joined_more _ _ _ c.args.bytes.items c.pieces.bytes.items c.read_piece.new.bytes.items _ c.pieces.invariant.came piece;
+      count = (◌∙◌) {b = c.pieces.file.faults} c.in_ok-count.ensures.count c.pieces.invariant.count;
+    }
