@@ -1,8 +1,9 @@
 -- Bytes that were read at offsets of a file, or behind others.
-use Rattle.std.proofs.Common.{◌≡◌, ℕ, ◌+◌, ◌<◌, ◌≤◌, List, ◌++◌, length, take, drop, Option, None, Some, ap, ap₂, refl, sym, subst, ◌∙◌, arith, append_assoc}
+use Rattle.std.proofs.Common.{◌≡◌, ℕ, ◌+◌, ◌*◌, ◌/◌, ◌<◌, ◌≤◌, List, ◌++◌, length, take, drop, Option, None, Some, ap, ap₂, refl, sym, subst, ◌∙◌, arith, append_assoc}
 use Rattle.std.specs.Option.{option_map}
 use Rattle.std.specs.Io.KnownBytes.{Consumes, IsAtEnd}
 use Rattle.std.proofs.Math.Seq.{take-add, take-append-add}
+use Rattle.std.proofs.lemmas.Nat.{div-add-mod', mul-le}
 use Rattle.std.proofs.lemmas.List.{drop-drop, drop_all, length-take-le, take_all, take-append-drop}
 use Rattle.pr_ports.specs.Offset.{HasFront, IsReadAt}
 
@@ -69,3 +70,8 @@ front_cut None into cut count is within front = tt
 front_cut (Some all) into cut count is within front =
     let long : length cut ≡ count = ap length is ∙ length-take-le count into within in
     take_all (length cut) cut (omega arith) ∙ is ∙ front ∙ ap (λ n. take n (drop 0 all)) (sym long)
+
+-- the share of half of the threads is within the bytes
+pub half_within : (long threads : ℕ) → long / threads * (threads / 2) ≤ long
+half_within long threads =
+    omega (arith, mul-le (long / threads) (threads / 2) (long / threads) threads (omega arith) (omega arith), div-add-mod' long threads)
