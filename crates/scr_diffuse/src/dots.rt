@@ -35,7 +35,6 @@ pub(crate) fn set_dots(columns: &[u8], lane: usize, bits: &mut [u8], from: u32)
 }
 
 /// Writes the pixels from `from` on, one by one.
-#[tactic(auto, using(pr_base::proofs::BitLemmas::growing))]
 fn set_bits(columns: &[u8], lane: usize, bits: &mut [u8], from: usize)
     requires lane { lane < 8 }
     requires room { from + length columns.now ≤ 8 * length bits.old }
