@@ -7,40 +7,15 @@ use pr_ports::{Sink, SinkFault};
 use std::process::Abort;
 use std::thread::Threads;
 use std::time::Clock;
-use test_room::{CALM, Desk, Ended, Failing, Held, PLATE, are_empty, racks, tells};
+use test_room::{CALM, Desk, Ended, Failing, Held, are_empty, racks, tells};
 
-// Arguments that are not a command.
-const WORDS: Ended<'static> = Ended {
-    status: 2,
-    out: &[],
-    line: "plateroom: words\n",
-};
+// The line for arguments that are not a command.
+const WORDS: &str = "plateroom: words\n";
 
-// The output or the error output failed.
-const FAILED: Ended<'static> = Ended {
-    status: 7,
-    out: &[],
-    line: "",
-};
+// The lines where the shelf has no such file, or failed to load it.
+const NO_A: &str = "plateroom: shelf: a.tif\n";
 
-const PRINTED: Ended<'static> = Ended {
-    status: 0,
-    out: &PLATE,
-    line: "",
-};
-
-// The shelf has no such file, or failed to load it.
-const NO_A: Ended<'static> = Ended {
-    status: 5,
-    out: &[],
-    line: "plateroom: shelf: a.tif\n",
-};
-
-const NO_B: Ended<'static> = Ended {
-    status: 5,
-    out: &[],
-    line: "plateroom: shelf: b.tif\n",
-};
+const NO_B: &str = "plateroom: shelf: b.tif\n";
 
 // The shelf, the output or the error output fails at its first call.
 const NO_SHELF: Failing = Failing {
@@ -58,25 +33,30 @@ const NO_NOTE: Failing = Failing {
     ..CALM
 };
 
-// The arguments, the calls that fail, and the expected result. The output takes a plate in one call.
-const CASES: [(&[&str], Failing, Ended<'static>); 11] = [
-    (&[], CALM, WORDS),
-    (&["one"], CALM, WORDS),
-    (&["one", ""], CALM, WORDS),
-    (&["one", "a.tif", "b.tif"], CALM, WORDS),
-    (&["two", "a.tif"], CALM, WORDS),
-    (&["One", "a.tif"], CALM, WORDS),
-    (&["one", "b.tif"], CALM, NO_B),
-    (&["one", "a.tif"], CALM, PRINTED),
-    (&["one", "a.tif"], NO_SHELF, NO_A),
-    (&["one", "a.tif"], NO_OUT, FAILED),
-    (&[], NO_NOTE, FAILED),
+// The arguments, the calls that fail, then the expected status and line of the error output. Nothing is
+// printed. Status 7 is an output or an error output that failed.
+const CASES: [(&[&str], Failing, u8, &str); 10] = [
+    (&[], CALM, 2, WORDS),
+    (&["one"], CALM, 2, WORDS),
+    (&["one", ""], CALM, 2, WORDS),
+    (&["one", "a.tif", "b.tif"], CALM, 2, WORDS),
+    (&["two", "a.tif"], CALM, 2, WORDS),
+    (&["One", "a.tif"], CALM, 2, WORDS),
+    (&["one", "b.tif"], CALM, 5, NO_B),
+    (&["one", "a.tif"], NO_SHELF, 5, NO_A),
+    (&["one", "a.tif"], NO_OUT, 7, ""),
+    (&[], NO_NOTE, 7, ""),
 ];
 
 #[test]
 fn tells_what_is_wrong_and_what_failed(rt: HostRuntime) {
-    for (n, (words, failing, want)) in CASES.iter().enumerate() {
-        check(&rt, n, does(&rt, words, Held::Image, *failing, want));
+    for (n, (words, failing, status, line)) in CASES.iter().enumerate() {
+        let want = Ended {
+            status: *status,
+            out: &[],
+            line: *line,
+        };
+        check(&rt, n, does(&rt, words, Held::Image, *failing, &want));
     }
 }
 

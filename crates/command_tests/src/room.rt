@@ -2,7 +2,7 @@
 use std::process::Abort;
 use std::thread::Threads;
 use std::time::Clock;
-use test_room::{Desk, Ended, Failing, Held, are_empty, racks_after};
+use test_room::{Desk, Ended, Failing, Held, leaves_racks};
 
 /// The arguments that print the plate of a.tif.
 pub const ONE: [&str; 2] = ["one", "a.tif"];
@@ -17,11 +17,7 @@ pub fn does<R: Abort + AllocGlobal + Threads + Clock + Sync>(
 ) -> bool {
     let files = [("a.tif", file)];
     let mut desk = Desk::new(rt.alloc(), &files, &[], &[], failing.shelf);
-    let racks = racks_after(rt, rt.alloc(), words, &mut desk, failing, want);
-    match racks.expect(rt, "memory") {
-        Some(racks) => are_empty(&racks),
-        None => false,
-    }
+    leaves_racks(rt, rt.alloc(), words, &mut desk, failing, want).expect(rt, "memory")
 }
 
 /// Asserts that row `n` of a table holds.

@@ -10,5 +10,5 @@ mod room;
 pub use desk::{Desk, File, Held};
 pub use plans::{FOUR_PAGES, SmallPlan, TWO_PAGES, ZONED, plan_text};
 pub use plates::{Plate, are_empty, has_plates, have_plates, took, took_rows};
-pub use room::{CALM, Ended, Failing, RACKS, prints, racks, racks_after, tells};
+pub use room::{CALM, Ended, Failing, RACKS, leaves_racks, prints, racks, racks_after, tells};
 pub use worked_files::{FORM, PLATE, SAMPLES, Sides};

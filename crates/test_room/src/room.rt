@@ -3,6 +3,7 @@ ghost use Rattle.std.specs.Prelude.{◌≡◌, ◌≤◌, IfOk, is_some, length,
 ghost use Rattle.pr_rack.specs.Rack.{none_begun};
 ghost use Rattle.cmd_base.specs.Seen.{AreIdle};
 
+use crate::plates::are_empty;
 use plate_room::plate_main;
 use pr_base::NoMemory;
 use pr_ports::{MemSink, Shelf, Sink};
@@ -172,4 +173,20 @@ pub fn racks_after<T: Threads + Clock + Sync, H: Shelf>(
         ended,
     )?;
     Ok(if printed { Some(racks) } else { None })
+}
+
+/// Returns whether a command with these arguments ends so and leaves sixteen new racks unchanged. These calls
+/// of the racks and of the two outputs fail.
+pub fn leaves_racks<T: Threads + Clock + Sync, H: Shelf>(
+    rt: &T,
+    alloc: Global,
+    words: &[&str],
+    shelf: &mut H,
+    failing: Failing,
+    ended: &Ended<'_>,
+) -> Result<bool, NoMemory> {
+    match racks_after(rt, alloc, words, shelf, failing, ended)? {
+        Some(racks) => Ok(are_empty(&racks)),
+        None => Ok(false),
+    }
 }

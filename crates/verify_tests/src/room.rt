@@ -2,7 +2,7 @@
 use std::process::Abort;
 use std::thread::Threads;
 use std::time::Clock;
-use test_room::{CALM, Desk, Ended, Failing, File, Held, Plate, are_empty, racks_after};
+use test_room::{CALM, Desk, Ended, Failing, File, Held, Plate, leaves_racks};
 
 /// The arguments that verify the plates.
 pub const VERIFY: [&str; 4] = ["verify", "plan.json", "FILES", "OUT"];
@@ -40,11 +40,8 @@ pub fn does<R: Abort + AllocGlobal + Threads + Clock + Sync>(
         out: case.out.as_bytes(),
         line: case.line,
     };
-    let racks = racks_after(rt, rt.alloc(), words, &mut desk, case.failing, &ended);
-    match racks.expect(rt, "memory") {
-        Some(racks) => are_empty(&racks) && desk.loads == case.loads,
-        None => false,
-    }
+    let left = leaves_racks(rt, rt.alloc(), words, &mut desk, case.failing, &ended);
+    left.expect(rt, "memory") && desk.loads == case.loads
 }
 
 /// Whether `verify` on these plates of a plan, some of them wrong, ends with this status and this text, the
