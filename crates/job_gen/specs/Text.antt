@@ -3,7 +3,7 @@ use Rattle.std.specs.Prelude.{ℕ, ◌*◌, ◌%◌, ◌==◌, Bool, true, if◌
 use Rattle.std.specs.List.{range_with_len}
 use Rattle.serde_json.specs.Data.{Data, Items, Members, array, item, no_items, no_members, number, object}
 use Rattle.serde_json.specs.Data.{put, string, unsigned}
-use Rattle.std.proofs.Common.{Bor}
+use Rattle.std.specs.Borrow.{Bor}
 use Rattle.job_gen.specs.declared.members.Plain.{Plain}
 use Rattle.job_gen.specs.declared.members.Plain.TheVariants.{Text, Number, Numbers}
 use Rattle.job_gen.specs.Numbers.{page_count, site_count, size_of}
