@@ -1,5 +1,5 @@
-// Members of JSON objects whose values are texts, numbers and lists of numbers, and the objects that have such
-// members.
+// Members of JSON objects whose values are texts, numbers and lists of numbers, and the objects that have
+// them.
 ghost use Rattle.std.specs.Prelude.{◌≡◌, [], ◌∷◌, IfOk, OnOk, map};
 ghost use Rattle.job_gen.specs.Text.{list_of, members_of, object_of, object_with as object_with_of, put_all};
 ghost use Rattle.job_gen.specs.Text.{value_of, whole};
