@@ -5,9 +5,10 @@ usage: check/wrong_bodies.py [--jobs N] [--clone FOLDER] [CRATE ..]
 
 They have the form of the gate's own, crates/NAME/must-fail/*.edit, and are kept apart from these so that the
 gate takes less time. Without CRATE those of all crates are tested, N crates at a time (as many as there are
-processors, at most two gigabytes of memory each). The test works on the committed files, in a clone: in
-FOLDER, which is kept, so that a second test finds the libraries proved; otherwise in a temporary folder,
-which gets the libraries that this repository built.
+processors, at most two gigabytes of memory each). The test works on the committed files, in N clones, since no
+crate can be checked while one below it has a wrong body. The clones are in FOLDER and are kept, so that a second
+test finds the libraries proved; otherwise they are in a temporary folder. A new clone gets the libraries that
+this repository built.
 
 A function is proved from the contracts of what it calls, whatever their bodies are. So those wrong bodies of a
 crate that change different functions are tried together, in one check: each is refused if the check says so of
@@ -24,6 +25,7 @@ import argparse
 import collections
 import concurrent.futures
 import os
+import queue
 import re
 import shutil
 import subprocess
@@ -214,7 +216,8 @@ def classified(clone, crate, name, text):
 
 
 def made_clone(folder):
-    """Makes a clone of what is committed in this folder, or brings the one that is there up to date."""
+    """Makes a clone of what is committed in this folder, or brings the one that is there up to date, and returns the
+    folder."""
     if os.path.isdir(os.path.join(folder, ".git")):
         subprocess.run(["git", "fetch", "-q", TOP, "HEAD"], cwd=folder, check=True)
         subprocess.run(["git", "checkout", "-q", "-f", "--detach", "FETCH_HEAD"], cwd=folder, check=True)
@@ -224,16 +227,30 @@ def made_clone(folder):
             built = os.path.join(TOP, "crates", crate, "out", "rlib")
             if os.path.isdir(built):
                 shutil.copytree(built, os.path.join(folder, "crates", crate, "out", "rlib"), symlinks=True)
+    return folder
 
 
-def trial(clone, crates, jobs):
-    """Tries all wrong bodies of these crates, and returns whether each was refused."""
+def run_in_one_of(clones, crate):
+    """Tries the wrong bodies of one crate in a clone that no other crate uses meanwhile. Returns the clone, and what
+    `run_crate` does."""
+    clone = clones.get()
+    try:
+        return clone, run_crate(clone, crate)
+    finally:
+        clones.put(clone)
+
+
+def trial(folders, crates):
+    """Tries all wrong bodies of these crates in these clones, and returns whether each was refused."""
     kinds, apart, well = collections.Counter(), [], True
-    with concurrent.futures.ThreadPoolExecutor(jobs) as pool:
-        running = {pool.submit(run_crate, clone, crate): crate for crate in crates}
+    clones = queue.SimpleQueue()
+    for folder in folders:
+        clones.put(folder)
+    with concurrent.futures.ThreadPoolExecutor(len(folders)) as pool:
+        running = {pool.submit(run_in_one_of, clones, crate): crate for crate in crates}
         for done in concurrent.futures.as_completed(running):
-            crate = running[done]
-            for name, (refused, text) in done.result().items():
+            crate, (clone, answers) = running[done], done.result()
+            for name, (refused, text) in answers.items():
                 kind, function = classified(clone, crate, name, text) if refused else ("not refused", "")
                 kinds[kind] += 1
                 well = well and refused
@@ -251,7 +268,7 @@ def main():
     parser = argparse.ArgumentParser(description=__doc__, formatter_class=argparse.RawDescriptionHelpFormatter)
     parser.add_argument("crates", metavar="CRATE", nargs="*", help="the crates whose wrong bodies are tested (default: all)")
     parser.add_argument("--jobs", type=int, default=len(os.sched_getaffinity(0)), help="crates at a time")
-    parser.add_argument("--clone", metavar="FOLDER", help="a folder for the clone, which is kept")
+    parser.add_argument("--clone", metavar="FOLDER", help="a folder for the clones, which are kept")
     words = parser.parse_args()
     known = sorted(os.listdir(os.path.join(TOP, BODIES)))
     unknown = [crate for crate in words.crates if crate not in known]
@@ -260,12 +277,14 @@ def main():
     if shutil.which("rt") is None:
         parser.error("rt isn't on the path")
     with tempfile.TemporaryDirectory(prefix="wrong-bodies-") as room:
-        clone = os.path.abspath(words.clone) if words.clone else os.path.join(room, "clone")
+        folder = os.path.abspath(words.clone) if words.clone else room
+        crates = words.crates or known
         try:
-            made_clone(clone)
+            os.makedirs(folder, exist_ok=True)
+            clones = [made_clone(os.path.join(folder, str(number))) for number in range(min(words.jobs, len(crates)))]
         except (subprocess.CalledProcessError, OSError) as error:
-            parser.error(f"no clone in {clone}: {error}")
-        return 0 if trial(clone, words.crates or known, words.jobs) else 1
+            parser.error(f"no clone in {folder}: {error}")
+        return 0 if trial(clones, crates) else 1
 
 
 if __name__ == "__main__":
