@@ -5,10 +5,10 @@ usage: check/wrong_bodies.py [--jobs N] [--clone FOLDER] [CRATE ..]
 
 They have the form of the gate's own, crates/NAME/must-fail/*.edit, and are kept apart from these so that the
 gate takes less time. Without CRATE those of all crates are tested, N crates at a time (as many as there are
-processors, at most two gigabytes of memory each). The test works on the committed files, in N clones, since no
-crate can be checked while one below it has a wrong body. The clones are in FOLDER and are kept, so that a second
-test finds the libraries proved; otherwise they are in a temporary folder. A new clone gets the libraries that
-this repository built.
+processors, with at most two gigabytes of memory for each). The test works on the committed files, in a clone
+for each crate at a time, since no crate can be checked while one below it has a wrong body. The clones, of up
+to two gigabytes each, are made in FOLDER and kept, so that a second test finds the libraries proved; without
+FOLDER they are in a temporary folder. A new clone gets the libraries that this repository built.
 
 A function is proved from the contracts of what it calls, whatever their bodies are. So those wrong bodies of a
 crate that change different functions are tried together, in one check: each is refused if the check says so of
