@@ -142,10 +142,11 @@ def main():
     parser.add_argument("--tools", metavar="TOOLS", default=os.path.join(TOP, "tools"))
     words = parser.parse_args()
     sys.path.insert(0, words.tools)
-    from pressroom import limits, state
-    from pressroom.house import Place, read_house
-    from pressroom.intake import Intake
-    from pressroom.pages import PageFile
+    from pressroom.base import limits
+    from pressroom.intake import state
+    from pressroom.house.house import Place, read_house
+    from pressroom.intake.intake import Intake
+    from pressroom.intake.pages import PageFile
 
     folder = os.path.abspath(words.folder)
     os.makedirs(folder, exist_ok=True)

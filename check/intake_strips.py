@@ -11,12 +11,12 @@ from newspaper import NEWSPAPER, TOP
 
 sys.path[:0] = [NEWSPAPER, os.path.join(TOP, "tools")]
 from pdf import Pdf
-from pressroom import profiles
-from pressroom.contents import has_no_rgb
-from pressroom.ghostscript import Ghostscript
-from pressroom.limits import Limits
-from pressroom.pdf import Refused, inspect
-from pressroom.tiff import Tiff
+from pressroom.base.limits import Limits
+from pressroom.intake import profiles
+from pressroom.intake.contents import has_no_rgb
+from pressroom.intake.ghostscript import Ghostscript
+from pressroom.intake.pdf import Refused, inspect
+from pressroom.tiff.tiff import Tiff
 
 # 60.96 by 81.28 mm: 14 million pixels.
 DPI, SIZE = 1350, (3240, 4320)

@@ -9,6 +9,7 @@ strip, objcopy and Debian's python3, and reports which are missing. It leaves ou
 bash-completion where they are missing. The last line is `N passed, M failed`, and the status is 1 if one
 failed.
 """
+import glob
 import gzip
 import hashlib
 import json
@@ -103,11 +104,10 @@ def try_needs(trial, control):
     fields = re.findall(r"^(?:Depends|Recommends|Suggests): (.*)$", control, re.MULTILINE)
     named = set(re.findall(r"[\w.+-]+", " ".join(fields)))
     folder = os.path.join(TOP, "tools", "pressroom")
-    table = text_of(os.path.join(folder, "console.py"))
+    table = text_of(os.path.join(folder, "base", "console.py"))
     told = set(re.findall(r'^    "[\w-]+": "([\w.+-]+)",$', table, re.MULTILINE))
-    for name in os.listdir(folder):
-        if name.endswith(".py"):
-            told |= set(re.findall(r"apt-get install ([a-z][\w.+-]*)", text_of(os.path.join(folder, name))))
+    for path in glob.glob(os.path.join(folder, "**", "*.py"), recursive=True):
+        told |= set(re.findall(r"apt-get install ([a-z][\w.+-]*)", text_of(path)))
     for name in sorted(told - {"util-linux"}):
         trial.holds(f"the package {name}", name not in named and "package/control doesn't name it")
 

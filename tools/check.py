@@ -2,7 +2,7 @@
 """The same as `pressroom check`."""
 import sys
 
-from pressroom.check import main
+from pressroom.commands.check import main
 
 if __name__ == "__main__":
     sys.exit(main())

@@ -2,7 +2,7 @@
 """The same as `pressroom parts`."""
 import sys
 
-from pressroom.parts import main
+from pressroom.commands.parts import main
 
 if __name__ == "__main__":
     sys.exit(main())

@@ -2,7 +2,7 @@
 """The same as `pressroom proof`."""
 import sys
 
-from pressroom.proof import main
+from pressroom.commands.proof import main
 
 if __name__ == "__main__":
     sys.exit(main())

@@ -2,7 +2,7 @@
 """The same as `pressroom tile`."""
 import sys
 
-from pressroom.tile import main
+from pressroom.commands.tile import main
 
 if __name__ == "__main__":
     sys.exit(main())

@@ -4,9 +4,9 @@ import sys
 
 from pressroom import __version__
 
-# Each command with its line of help. A command NAME is the function `main` of the module NAME, which reads `sys.argv`
-# and returns the exit status. A module is imported only when its command runs, so that a command needs only its own
-# libraries.
+# Each command with its line of help. A command NAME is the function `main` of the module commands/NAME, which
+# reads `sys.argv` and returns the exit status. A module is imported only when its command runs, so that a command
+# needs only its own libraries.
 COMMANDS = {
     "intake": "make plans and files from the PDFs of a night",
     "check": "report every fault of a plan and its files, and what would be lost without a fault",
@@ -43,4 +43,4 @@ def main():
         print(f"pressroom: no command {name!r}; `pressroom --help` lists them", file=sys.stderr)
         return 2
     sys.argv = [f"pressroom {name}", *words[1:]]
-    return importlib.import_module(f"pressroom.{name}").main()
+    return importlib.import_module(f"pressroom.commands.{name}").main()

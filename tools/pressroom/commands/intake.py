@@ -1,0 +1,4 @@
+"""The command `pressroom intake`."""
+from pressroom.intake.intake import main
+
+__all__ = ["main"]

@@ -1,0 +1,4 @@
+"""The command `pressroom night`."""
+from pressroom.night.night import main
+
+__all__ = ["main"]

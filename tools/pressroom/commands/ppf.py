@@ -1,0 +1,4 @@
+"""The command `pressroom ppf`."""
+from pressroom.proof.ppf import main
+
+__all__ = ["main"]

@@ -1,0 +1,4 @@
+"""The command `pressroom web`."""
+from pressroom.proof.web import main
+
+__all__ = ["main"]

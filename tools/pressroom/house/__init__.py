@@ -1,0 +1,1 @@
+"""The house file, and the tiles that it may name."""

@@ -1,0 +1,1 @@
+"""Pages into files and plans."""

@@ -1,0 +1,1 @@
+"""The night as a service over a spool."""

@@ -1,0 +1,1 @@
+"""Plans: written, read, checked, and cut into parts."""

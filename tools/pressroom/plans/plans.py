@@ -1,0 +1,151 @@
+"""Makes the plan of each press from the house file and the pages that were made."""
+import json
+import os
+
+from pressroom.house import tile
+from pressroom.house.house import INKS, LARGEST_TILE, Place
+
+# The most bytes that plateroom loads: of a plan's files together, and of one file.
+MOST_BYTES, MOST_FILE = 3_221_225_472, 536_870_912
+BLANK = {"name": "blank", "inks": "K", "layers": []}
+
+
+def page_names(places):
+    """Returns a unique name of at most 16 letters, digits and _ for each place."""
+    names = {}
+    for place in places:
+        names[place] = f"{place.section}{place.page:02}" + (f"_{place.zone}" if place.zone else "")
+    short = all(len(name) <= 16 for name in names.values())
+    if short and len(set(names.values()) | {"blank"}) == len(names) + 1:
+        return names
+    return {place: f"page{number:04}" for number, place in enumerate(places, 1)}
+
+
+def limit_of(percent):
+    """Returns an ink limit in the plan's units."""
+    return int(percent * 255 / 100 + 1e-9)
+
+
+def screens(press, dpi):
+    """Returns a press's tiles and screens in the plan's form."""
+    tiles, names = {}, {}
+    for ink in INKS:
+        screen = press.screens.get(ink)
+        if screen is None:
+            continue
+        if screen.name:
+            names[ink] = screen.name
+            continue
+        if screen not in tiles:
+            grid = tile.nearest(screen.angle, screen.ruling, dpi, LARGEST_TILE)[0]
+            at = tile.thresholds(grid, screen.dot)
+            tiles[screen] = {"name": f"tile{ink}", "width": grid.side, "height": grid.side, "at": at}
+        names[ink] = "tile:" + tiles[screen]["name"]
+    return list(tiles.values()), names
+
+
+def curves(press):
+    """Returns a press's curves in the plan's form, percent as 255ths."""
+    return {
+        ink: [[round(x * 255 / 100), round(y * 255 / 100)] for x, y in points]
+        for ink, points in sorted(press.curves.items(), key=lambda pair: INKS.index(pair[0]))
+    }
+
+
+def marks(house, press):
+    """Returns a press's marks in the plan's form, each at least one pixel wide and high."""
+    found = []
+    for mark in press.marks:
+        x, y = house.pixels(mark.x), house.pixels(mark.y)
+        right, bottom = house.pixels(mark.x + mark.width), house.pixels(mark.y + mark.height)
+        found.append({"inks": mark.inks, "x": x, "y": y, "w": max(1, right - x), "h": max(1, bottom - y)})
+    return found
+
+
+def plan_of(house, press, pages):
+    """Returns the plan of a press. `pages` has the inks and layers of each place that isn't blank."""
+    sites = [site for site in house.sites if site.press == press.name]
+    zones = list(dict.fromkeys(site.zone for site in sites if site.zone))
+    first = {section: number for number, section in enumerate(house.sections)}
+    order = [place for place in pages if place.zone is None or place.zone in zones]
+    order.sort(key=lambda place: (place.zone or "", first[place.section], place.page))
+    names = page_names(order)
+
+    def name(place):
+        return names.get(place, "blank")
+
+    sections = [
+        {"name": section, "pages": [name(Place(None, section, page)) for page in range(1, count + 1)]}
+        for section, count in house.sections.items()
+    ]
+    given = set(order) | house.blank
+    own = [
+        {
+            "name": zone,
+            "replace": [
+                {"section": section, "page": page, "with": name(Place(zone, section, page))}
+                for section, count in house.sections.items()
+                for page in range(1, count + 1)
+                if Place(zone, section, page) in given
+            ],
+        }
+        for zone in zones
+    ]
+    tiles, named = screens(press, house.dpi)
+    listed = [{"name": names[place], **pages[place]} for place in order]
+    used = {page for section in sections for page in section["pages"]}
+    used |= {item["with"] for zone in own for item in zone["replace"]}
+    return {
+        "plan": 2,
+        "edition": house.edition,
+        "dpi": house.dpi,
+        "page": list(house.page_pixels()),
+        "margins": [house.pixels(side) for side in house.margins],
+        "gutter": house.pixels(house.gutter),
+        "limit": limit_of(press.limit),
+        "tiles": tiles,
+        "screens": named,
+        "curves": curves(press),
+        "marks": marks(house, press),
+        "pages": listed + ([BLANK] if "blank" in used else []),
+        "sections": sections,
+        "zones": own,
+        "sites": [{"name": site.name} | ({"zone": site.zone} if site.zone else {}) for site in sites],
+    }
+
+
+def files_of(plan):
+    """Returns the names of all files of a plan."""
+    return {layer["file"] for page in plan["pages"] for layer in page["layers"]}
+
+
+def write(path, value):
+    """Writes JSON to a file, unless the file already has the same content: under another name first, which is
+    then renamed. Returns whether it wrote.
+    """
+    data = (json.dumps(value, ensure_ascii=False, indent=1) + "\n").encode()
+    try:
+        with open(path, "rb") as file:
+            if file.read() == data:
+                return False
+    except FileNotFoundError:
+        pass
+    with open(path + ".new", "wb") as file:
+        file.write(data)
+        file.flush()
+        os.fsync(file.fileno())
+    os.replace(path + ".new", path)
+    return True
+
+
+def plan_files(work):
+    """Returns the names of the files of all plans in a folder, whoever wrote the plans."""
+    kept = set()
+    for name in os.listdir(work):
+        if name.endswith(".json"):
+            try:
+                with open(os.path.join(work, name), encoding="utf-8") as file:
+                    kept |= files_of(json.load(file))
+            except (OSError, ValueError, LookupError, TypeError, AttributeError):
+                continue
+    return kept

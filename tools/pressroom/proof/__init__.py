@@ -1,0 +1,1 @@
+"""What plates print: pictures, a proof for the browser, and ink keys."""

@@ -1,0 +1,66 @@
+"""The plates of an edition below a folder: its sites, pairs and inks, and which files have the same content.
+
+Only files with the full name of a plate are read, so a `.tif.part` never is.
+"""
+import hashlib
+import os
+
+from pressroom.proof.proof import COLOURS, PLATE
+from pressroom.tiff.tiff import Broken, Tiff
+
+INK_NAMES = {"C": "Cyan", "M": "Magenta", "Y": "Yellow", "K": "Black", "S": "Spot"}
+BLOCK = 1 << 20
+
+
+class Site:
+    """A site's folder: the plates of each pair, as paths by ink in printing order."""
+
+    def __init__(self, name, folder):
+        self.name, self.pairs, self.edition = name, {}, None
+        for file in sorted(os.listdir(folder)):
+            named = PLATE.fullmatch(file)
+            if named:
+                edition, pair = named[1].split("-", 1)
+                self.edition = self.edition or edition
+                self.pairs.setdefault(pair, {})[named[2]] = os.path.join(folder, file)
+        for pair, paths in self.pairs.items():
+            self.pairs[pair] = {ink: paths[ink] for ink in COLOURS if ink in paths}
+
+    def paths(self):
+        """The paths of all plates."""
+        return [path for paths in self.pairs.values() for path in paths.values()]
+
+
+def sites_of(folder):
+    """The sites that have plates below a folder; a folder with plates of its own is one site."""
+    own = Site(os.path.basename(os.path.abspath(folder)), folder)
+    if own.pairs:
+        return [own]
+    names = [name for name in sorted(os.listdir(folder)) if os.path.isdir(os.path.join(folder, name))]
+    sites = [Site(name, os.path.join(folder, name)) for name in names if not name.startswith(".")]
+    return [site for site in sites if site.pairs]
+
+
+def content_of(path):
+    """An identity of the file's bytes: files have the same one exactly if their bytes are the same."""
+    digest = hashlib.sha256()
+    try:
+        with open(path, "rb") as file:
+            while piece := file.read(BLOCK):
+                digest.update(piece)
+    except OSError as error:
+        raise Broken(f"{path}: {error.strerror}") from None
+    return digest.hexdigest()
+
+
+def open_plate(path):
+    """The plate at this path. Raises Broken if it isn't one."""
+    plate = Tiff(path)
+    if (plate.samples, plate.bits, plate.photometric) != (1, 1, 0):
+        plate.close()
+        raise Broken(f"{path}: not a plate: a plate has 1 sample of 1 bit, and 1 prints")
+    if not plate.width or not plate.length:
+        plate.close()
+        raise Broken(f"{path}: not a plate: it has no pixel")
+    plate.dpi = plate.rational(282)
+    return plate

@@ -1,0 +1,139 @@
+"""The sheets of an edition's plates: counts each plate once, and writes a PPF file for each pair and its
+sites."""
+import os
+from concurrent.futures import ThreadPoolExecutor
+
+import numpy
+
+from pressroom.house.house_tables import press_keys, spot_of
+from pressroom.proof import key_table, ppf_file
+from pressroom.proof.counts import Counts
+from pressroom.proof.plates import INK_NAMES, content_of, open_plate, sites_of
+from pressroom.tiff.tiff import Broken
+
+
+class Plate:
+    """A plate's size and counts, in blocks that become the preview's pixels."""
+
+    def __init__(self, path):
+        plate = open_plate(path)
+        try:
+            self.path, self.width, self.length, self.dpi = path, plate.width, plate.length, plate.dpi
+            self.counts = Counts(plate, ppf_file.factor_of(plate.dpi))
+        finally:
+            plate.close()
+
+    def samples(self):
+        """The preview, in PostScript's grey: a block beyond the plate's edge is paper."""
+        area = self.counts.side**2
+        return numpy.rint(255 * (1 - self.counts.blocks / area)).astype(numpy.uint8)
+
+
+class Sheets:
+    """Everything that one call writes."""
+
+    def __init__(self, words, console):
+        self.words, self.console = words, console
+        try:
+            self.sites = sites_of(words.plates)
+        except OSError as error:
+            raise Broken(f"{words.plates}: {error.strerror}") from None
+        if not self.sites:
+            raise Broken(f"{words.plates}: no plates")
+        self.press = press_keys(words.house) if words.house else None
+        spot = spot_of(words.house)[0] if words.house else None
+        self.names = INK_NAMES | ({"S": spot} if spot else {})
+        self.rows = {count: [] for count in words.keys}
+
+    def make(self):
+        """Writes all files and tables and returns how many plates are damaged."""
+        os.makedirs(self.words.out, exist_ok=True)
+        damaged, written, sheets = set(), 0, self.sheets()
+        for pair, sites, plates in self.console.bar(self.counted(sheets), "pairs", len(sheets)):
+            faults = [str(plate) for plate in plates.values() if isinstance(plate, Broken)]
+            faults = faults or list(self.sizes(plates))
+            for fault in faults:
+                self.console.tell("fault", fault, pair=pair, sites=sites)
+            damaged.update(faults)
+            if not faults:
+                self.write_sheet(pair, sites, plates)
+                written += 1
+        for count, rows in self.rows.items():
+            self.put(f"keys-{count}.csv", key_table.as_csv(rows, self.press))
+            self.put(f"keys-{count}.json", key_table.as_json(rows, count, self.press))
+        tables = f", tables of {' and '.join(map(str, self.rows))} keys" if self.rows else ""
+        line = f"{self.words.out}: {written} files{tables}" + (f"; {len(damaged)} damaged" if damaged else "")
+        self.console.tell("done", line, files=written, damaged=len(damaged))
+        return len(damaged)
+
+    def sheets(self):
+        """Each pair with the sites that print it from the same plates, and its paths by ink."""
+        contents, found = {}, {}
+        with ThreadPoolExecutor(self.words.jobs) as pool:
+            paths = [path for site in self.sites for path in site.paths()]
+            contents = dict(zip(paths, pool.map(self.content, paths)))
+        for site in self.sites:
+            for pair, inks in site.pairs.items():
+                form = pair, tuple((ink, contents[path]) for ink, path in inks.items())
+                found.setdefault(form, (pair, site.edition, inks, []))[3].append(site.name)
+        return sorted(found.values(), key=lambda sheet: sheet[0])
+
+    def content(self, path):
+        """An identity of a plate's bytes; a file that can't be read equals no other."""
+        try:
+            return content_of(path)
+        except Broken:
+            return path
+
+    def counted(self, sheets):
+        """Each pair with its sites and counted plates, sheet by sheet; a damaged plate is its fault."""
+
+        def count(path):
+            try:
+                return Plate(path)
+            except Broken as error:
+                return error
+
+        with ThreadPoolExecutor(self.words.jobs) as pool:
+            for pair, edition, inks, sites in sheets:
+                self.edition = edition
+                yield pair, sites, dict(zip(inks, pool.map(count, inks.values())))
+
+    def sizes(self, plates):
+        """What is wrong where plates of a pair differ in size or resolution."""
+        first, *others = plates.values()
+        for plate in others:
+            if (plate.width, plate.length, plate.dpi) != (first.width, first.length, first.dpi):
+                yield f"{plate.path}: has another size or resolution than {first.path}"
+
+    def write_sheet(self, pair, sites, plates):
+        """Writes one PPF file, and adds its plates to the tables."""
+        dpi = next(iter(plates.values())).dpi
+        separations = [(self.names[ink], plate.samples()) for ink, plate in plates.items()]
+        name = f"{self.edition}-{pair}-{sites[0]}.ppf"
+        self.put(name, ppf_file.text_of(self.edition, pair, sites, dpi, separations))
+        for count, rows in self.rows.items():
+            rows += [
+                key_table.Row(pair, sites, ink, self.names[ink], plate, count, self.press)
+                for ink, plate in plates.items()
+            ]
+        dots = {ink: plate.counts.total() for ink, plate in plates.items()}
+        self.console.tell(
+            "file",
+            f"{name}: {' '.join(plates)} for {' '.join(sites)}",
+            name=name,
+            pair=pair,
+            sites=sites,
+            dots=dots,
+        )
+
+    def put(self, name, text):
+        """Writes a file under another name first, so that none is ever present in part."""
+        path = os.path.join(self.words.out, name)
+        try:
+            with open(path + ".part", "w", encoding="ascii" if name.endswith(".ppf") else "utf-8") as file:
+                file.write(text)
+            os.replace(path + ".part", path)
+        finally:
+            if os.path.exists(path + ".part"):
+                os.remove(path + ".part")

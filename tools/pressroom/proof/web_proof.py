@@ -1,0 +1,206 @@
+"""Builds the data, tiles and thumbnails of a proof in the browser from plates."""
+import base64
+import json
+import os
+from concurrent.futures import ThreadPoolExecutor
+
+from pressroom.house.house_tables import spot_of
+from pressroom.plans import web_plan
+from pressroom.proof import web_tiles
+from pressroom.proof.counts import Counts
+from pressroom.proof.plates import INK_NAMES, content_of, open_plate, sites_of
+from pressroom.proof.proof import COLOURS
+from pressroom.proof.web_changes import Changes
+from pressroom.proof.web_view import View
+from pressroom.tiff.tiff import Broken
+
+# The sides in pixels of the blocks that are counted, and in blocks of the cells that the page measures by.
+BLOCK, CELL = 8, 8
+THUMB = 420
+
+
+class Plate:
+    """A plate by its content: its key in the proof, its size, counts and tiles."""
+
+    def __init__(self, key, path, folder, keys):
+        self.key, self.path = key, path
+        plate = open_plate(path)
+        try:
+            self.width, self.length, self.dpi = plate.width, plate.length, plate.dpi
+            counts = Counts(plate, BLOCK)
+        finally:
+            plate.close()
+        self.total = counts.total()
+        self.keys = {count: counts.keys(count) for count in keys}
+        self.cells = counts.larger(CELL)
+        times = max(1, -(-self.width // (BLOCK * THUMB)))
+        self.shares = counts.larger(times) / counts.areas(times)
+        self.tiles = web_tiles.cut(path, os.path.join(folder, "tiles", key), self.width, self.length)
+
+    def summary(self):
+        """What the page has of it when it opens."""
+        return {"width": self.width, "length": self.length, "total": self.total, "tiles": self.tiles}
+
+    def write(self, folder):
+        """Writes what the page loads with the pair."""
+        rows, columns = self.cells.shape
+        cells = base64.b64encode(self.cells.astype("<u2").tobytes()).decode()
+        data = {"rows": rows, "columns": columns, "cells": cells, "keys": self.keys}
+        write_script(os.path.join(folder, "data", f"{self.key}.js"), f'proofPlate("{self.key}", ', data, ");")
+
+
+def write_script(path, front, data, end):
+    """Writes data as a script, since a page that is opened from a disk can't fetch JSON."""
+    with open(path, "w", encoding="ascii") as file:
+        file.write(f"{front}{json.dumps(data, separators=(',', ':'))}{end}\n")
+
+
+class Proof:
+    """All plates of a proof, and the views of them: a pair as some sites print it."""
+
+    def __init__(self, words, console, folder):
+        self.words, self.console, self.folder = words, console, folder
+        self.sites, self.old = self.found(words.plates), self.found(words.old) if words.old else []
+        self.sheets = web_plan.sheets_of(words.plan)
+        self.contents, self.plates, self.faults, self.damaged, self.views = {}, {}, {}, [], []
+        self.inks = {ink: {"name": INK_NAMES[ink], "colour": COLOURS[ink]} for ink in COLOURS}
+        self.set_spot()
+
+    def found(self, folder):
+        try:
+            sites = sites_of(folder)
+        except OSError as error:
+            raise Broken(f"{folder}: {error.strerror}") from None
+        if not sites:
+            raise Broken(f"{folder}: no plates")
+        return sites
+
+    def set_spot(self):
+        """Gives the spot the house's name and colour; --spot overrides the house file."""
+        name, colour = spot_of(self.words.house) if self.words.house else (None, None)
+        spot = self.inks["S"]
+        spot["name"] = name or spot["name"]
+        spot["colour"] = self.words.spot or colour or spot["colour"]
+
+    def make(self):
+        """Makes everything below the folder, several plates at a time."""
+        for name in ("tiles", "data", "thumbs"):
+            os.mkdir(os.path.join(self.folder, name))
+        with ThreadPoolExecutor(self.words.jobs) as pool:
+            try:
+                self.read_contents(pool)
+                self.make_plates(pool)
+                self.changes = Changes(self)
+                self.make_views()
+                self.changes.make(pool)
+            except BaseException:
+                pool.shutdown(cancel_futures=True)
+                raise
+        self.write()
+
+    def read_contents(self, pool):
+        """Finds which files have the same content."""
+        paths = [path for site in self.sites + self.old for path in site.paths()]
+
+        def read(path):
+            try:
+                return content_of(path)
+            except Broken as error:
+                return error
+
+        for path, content in zip(paths, self.console.bar(pool.map(read, paths), "contents", len(paths))):
+            if isinstance(content, Broken):
+                self.faults[path] = str(content)
+                content = path
+            self.contents[path] = content
+
+    def make_plates(self, pool):
+        """Counts each content once, and cuts it into tiles."""
+        first, keys = {}, self.words.keys or [32]
+        for site in self.sites:
+            for pair, paths in site.pairs.items():
+                for ink, path in paths.items():
+                    content = self.contents[path]
+                    first.setdefault(content, (f"{pair}-{ink}-{content[:12]}", path))
+
+        def plate(item):
+            content, (key, path) = item
+            try:
+                if path in self.faults:
+                    raise Broken(self.faults[path])
+                return content, Plate(key, path, self.folder, keys)
+            except Broken as error:
+                return content, error
+
+        for content, made in self.console.bar(pool.map(plate, first.items()), "plates", len(first)):
+            if isinstance(made, Broken):
+                self.faults[content] = str(made).removeprefix(f"{first[content][1]}: ")
+            else:
+                self.plates[content] = made
+                made.write(self.folder)
+
+    def make_views(self):
+        """A view for each pair and the sites that print it from the same plates, and had the same before."""
+        old, found = {site.name: site.pairs for site in self.old}, {}
+        for site in self.sites:
+            before = old.get(site.name, {})
+            for pair, paths in site.pairs.items():
+                new = {ink: self.contents[path] for ink, path in paths.items()}
+                was = {ink: self.contents[path] for ink, path in before.get(pair, {}).items()}
+                form = pair, tuple(new.items()), tuple(was.items())
+                if form not in found:
+                    found[form] = {"pair": pair, "sites": [], "new": new, "old": was}
+                found[form]["sites"].append(site.name)
+                for path in paths.values():
+                    if self.contents[path] in self.faults:
+                        self.tell_damage(path, self.faults[self.contents[path]])
+        views = sorted(found.values(), key=lambda view: view["pair"])
+        self.views = [View(self, number, **view) for number, view in enumerate(views)]
+
+    def tell_damage(self, path, reason):
+        self.console.tell("fault", f"{path}: {reason}", path=path, reason=reason)
+        self.damaged.append({"path": path, "reason": reason})
+
+    def write(self):
+        """Writes the data that the page has when it opens."""
+        data = {
+            "edition": self.sites[0].edition,
+            "inks": self.inks,
+            "cell": BLOCK * CELL,
+            "keys": sorted(set(self.words.keys or [32])),
+            "sites": {site.name: self.zone(site.name) for site in self.sites},
+            "plates": {plate.key: plate.summary() for plate in self.plates.values()},
+            "views": [view.data() for view in self.views],
+            "damaged": self.damaged,
+            "compared": bool(self.old),
+            "changes": self.changes.tiles,
+            "gone": self.gone(),
+        }
+        write_script(os.path.join(self.folder, "proof.js"), "const PROOF = ", data, ";")
+
+    def zone(self, site):
+        """The zone of a site, None if no plan names one."""
+        return self.sheets[site].zone if site in self.sheets else None
+
+    def gone(self):
+        """Pairs of the old edition that a site no longer has."""
+        now = {site.name: site.pairs for site in self.sites}
+        return [
+            {"pair": pair, "site": site.name}
+            for site in self.old
+            for pair in site.pairs
+            if pair not in now.get(site.name, {})
+        ]
+
+    def summary(self):
+        """A line on what was made."""
+        pairs = {view.pair for view in self.views}
+        files = sum(len(site.paths()) for site in self.sites)
+        line = (
+            f"{files} plates, {len(self.plates)} distinct, of {len(pairs)} pairs for {len(self.sites)} sites"
+        )
+        if self.old:
+            line += (
+                f"; {sum(view.state() != 'same' for view in self.views)} of {len(self.views)} views changed"
+            )
+        return line + (f"; {len(self.damaged)} damaged" if self.damaged else "")

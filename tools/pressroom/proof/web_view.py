@@ -1,0 +1,103 @@
+"""A view of a proof: a pair as some sites print it, with its pages, its changes and its thumbnail."""
+import os
+
+import numpy
+from PIL import Image
+
+from pressroom.plans import web_plan
+
+
+class View:
+    """A pair as some sites print it: its plates and what is damaged, its pages, and what changed."""
+
+    def __init__(self, proof, number, pair, sites, new, old):
+        self.proof, self.number, self.pair, self.sites, self.old = proof, number, pair, sites, old
+        self.section, _, place = pair.partition("-")
+        self.place = int(place)
+        self.plates, self.damaged = {}, {}
+        for ink, content in new.items():
+            self.take(ink, content)
+        self.new = {ink: content for ink, content in new.items() if ink in self.plates}
+        self.changes = proof.changes.of(self) if proof.old else {}
+
+    def take(self, ink, content):
+        """Puts a plate into the view, unless it's damaged or of another size than the first."""
+        if content in self.proof.faults:
+            self.damaged[ink] = self.proof.faults[content]
+            return
+        plate, first = self.proof.plates[content], next(iter(self.plates.values()), None)
+        if first and (plate.width, plate.length) != (first.width, first.length):
+            self.damaged[ink] = (
+                f"has {plate.width} by {plate.length} pixels, and the plate before it "
+                f"{first.width} by {first.length}"
+            )
+            self.proof.tell_damage(plate.path, self.damaged[ink])
+        else:
+            self.plates[ink] = plate
+
+    def pages(self):
+        """The two pages with their places on the plate, of each site."""
+        if not self.plates:
+            return {}
+        first, pages = next(iter(self.plates.values())), {}
+        size = first.width, first.length
+        most = max(view.place for view in self.proof.views if view.section == self.section)
+        for site in self.sites:
+            sheet = self.proof.sheets.get(site)
+            if sheet and sheet.size() == size:
+                pages[site] = sheet.pages(self.section, self.place)
+            else:
+                pages[site] = web_plan.halves(self.place, 2 * most, *size)
+        return pages
+
+    def limit(self):
+        """The least ink limit of its sites' plans, in percent."""
+        sheets = self.proof.sheets
+        limits = [
+            sheets[site].limit for site in self.sites if site in sheets and sheets[site].limit is not None
+        ]
+        return min(limits, default=None)
+
+    def state(self):
+        """Whether it is new, changed or unchanged since the old edition."""
+        if not self.old:
+            return "new"
+        return "changed" if any(change["dots"] != [0, 0] for change in self.changes.values()) else "same"
+
+    def thumb(self):
+        """Writes the picture of the index, in which every ink takes its share of the light."""
+        shares = next(iter(self.plates.values())).shares.shape
+        light = numpy.ones((*shares, 3))
+        for ink, plate in self.plates.items():
+            colour = numpy.array(self.proof.inks[ink]["colour"]) / 255
+            light *= 1 - plate.shares[:, :, None] * (1 - colour)
+        path = f"thumbs/{self.pair}-{self.number}.jpg"
+        picture = Image.fromarray(numpy.rint(light * 255).astype(numpy.uint8))
+        picture.save(os.path.join(self.proof.folder, path), quality=88, optimize=True)
+        return path, picture.size
+
+    def data(self):
+        """What the page knows of it."""
+        data = {
+            "pair": self.pair,
+            "section": self.section,
+            "sites": self.sites,
+            "damaged": self.damaged,
+            "plates": {ink: plate.key for ink, plate in self.plates.items()},
+            "pages": self.pages(),
+            "limit": self.limit(),
+        }
+        if self.plates:
+            first = next(iter(self.plates.values()))
+            path, size = self.thumb()
+            data |= {
+                "width": first.width,
+                "length": first.length,
+                "dpi": first.dpi,
+                "native": first.tiles["native"],
+                "thumb": path,
+                "thumbSize": size,
+            }
+        if self.proof.old:
+            data |= {"state": self.state(), "changes": self.changes}
+        return data

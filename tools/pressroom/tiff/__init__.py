@@ -1,0 +1,1 @@
+"""TIFF files, strip by strip."""

@@ -1,0 +1,1 @@
+"""The versions of an edition: made, verified, and remade for a late page."""
