@@ -13,6 +13,10 @@ from pressroom.intake.separations import Separations
 
 # The lines that say what Ghostscript repaired. That they are errors or warnings is on standard error.
 REPAIRED = re.compile(rb"^\t(.+)$", re.MULTILINE)
+# Lines after which something of the page isn't painted, though Ghostscript calls them warnings.
+UNPAINTED = re.compile(
+    rb"image error|error in (?:pattern|shading|Mask|image|transparency|group)|error reading a stream|unknown filter"
+)
 # Larger pages, in pixels, are painted in bands. Ghostscript paints 10 MB without them.
 SMALL = 8 << 20
 
@@ -60,7 +64,7 @@ class Ghostscript:
             raise Refused("damaged", f"can't be rendered: {first_line(out + note)}")
         # If a picture has too few samples, Ghostscript paints those it has and exits with 0.
         if was_repaired(out, note):
-            said = b", ".join(REPAIRED.findall(out)).decode("utf-8", "replace")
+            said = b", ".join(REPAIRED.findall(out + note)).decode("utf-8", "replace")
             raise Refused("damaged", f"damaged: {printable(said) or 'Ghostscript had to repair it'}")
         return Planes(path, size)
 
@@ -103,4 +107,4 @@ class Ghostscript:
 
 def was_repaired(out, note):
     """Returns whether Ghostscript painted something differently from what the PDF says."""
-    return b"errors were encountered" in note or any(b"image error" in line for line in REPAIRED.findall(out))
+    return b"errors were encountered" in out + note or any(map(UNPAINTED.search, REPAIRED.findall(out + note)))

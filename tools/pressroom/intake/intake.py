@@ -14,6 +14,7 @@ status: 0 the plans are written; 1 a page has a fault; 2 the arguments or the ho
 or library isn't installed, WORK can't be written, or another intake is using WORK
 """
 import argparse
+import importlib.util
 import os
 import shutil
 import sys
@@ -33,7 +34,7 @@ from pressroom.intake.pdf import Refused, inspect
 from pressroom.intake.survey import above, rgb_of, thin_white
 from pressroom.plans import plans
 
-PROGRAMS = ("gs", "qpdf", "pdfinfo", "pdffonts", "pdftohtml", "tiffcp", "tiffinfo", "prlimit")
+PROGRAMS = ("gs", "qpdf", "pdftohtml", "tiffcp", "tiffinfo", "prlimit")
 
 
 @dataclass(frozen=True)
@@ -95,12 +96,16 @@ class Intake:
 
     def rendered(self, copy, folder):
         """Returns the inks, layers and notes of a PDF."""
-        name, inspected = inspect(self.limits, copy, folder)
-        self.see_size(inspected.millimetres())
         for profile in os.listdir(self.profiles.name):
             shutil.copyfile(os.path.join(self.profiles.name, profile), os.path.join(folder, profile))
+        name, inspected = inspect(self.limits, copy, folder)
+        self.see_size(inspected.millimetres())
         gs = Ghostscript(self.version, self.limits, name, inspected.box, folder)
         notes = [(kind, text, None) for kind, text in inspected.notes]
+        if inspected.lab and self.house.rgb == "refuse":
+            raise Refused("rgb", "it has Lab colours, which the house file refuses as it does RGB")
+        if inspected.lab:
+            notes.append(("rgb", "Lab colours are converted", None))
         rgb = rgb_of(gs, inspected.millimetres()) if inspected.rgb else None
         if rgb and self.house.rgb == "refuse":
             raise Refused("rgb", "it has RGB, which the house file refuses", rgb)
@@ -255,11 +260,9 @@ def write_plans(house, work, ready, console):
 
 def see_libraries():
     """Raises Missing for a library or profile that isn't installed."""
-    for library, package in (("numpy", "python3-numpy"), ("PIL", "python3-pil")):
-        try:
-            __import__(library)
-        except ImportError:
-            raise Missing(f"Python's {library} is not installed: apt-get install {package}") from None
+    for library, package in (("numpy", "python3-numpy"), ("PIL", "python3-pil"), ("pikepdf", "python3-pikepdf")):
+        if importlib.util.find_spec(library) is None:
+            raise Missing(f"Python's {library} is not installed: apt-get install {package}")
     if not os.path.isfile(profiles.PLAIN):
         raise Missing(f"{profiles.PLAIN} is not installed: apt-get install libgs-common")
 

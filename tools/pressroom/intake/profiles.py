@@ -1,14 +1,19 @@
-"""Makes the ICC device links that convert RGB to the four inks.
+"""Makes the ICC device link that converts RGB to the four inks, and the table of neutral colours.
 
 Ghostscript's `-dBlackText` makes all text black, even coloured text, and a profile makes black from four
-inks. So RGB text and line art are converted by a link that is made here. It uses the house's profile, except
-that neutral colours become black ink alone of the same lightness.
+inks. So pressroom.reading gives neutral text and line art the black ink of the same lightness, from a table
+that is made here. All other RGB text, line art and gradients are converted by a link that uses the house's
+profile. A gradient that crosses neutral colours has no seam there.
 """
+import ctypes
+import ctypes.util
 import os
 import shutil
 import struct
 
 SIDE = 33
+# lcms2.h: three and four samples of 16 bits, and cmsFLAGS_HIGHRESPRECALC.
+TYPE_RGB_16, TYPE_CMYK_16, HIGH_RESOLUTION = 4 << 16 | 3 << 3 | 2, 6 << 16 | 4 << 3 | 2, 0x400
 # Ghostscript's own CMYK profile, for a house that names none.
 PLAIN = "/usr/share/color/icc/ghostscript/default_cmyk.icc"
 
@@ -78,16 +83,42 @@ def link(table):
     return head.ljust(128, b"\0") + directory + body
 
 
+def neutral_inks(table, steps=65536):
+    """Returns the black ink, a byte for each of the neutral colours from black to white, that Ghostscript makes of
+    them by a link with this table: lcms interpolates with 16 bits and a precise grid, and the high byte prints.
+    """
+    import numpy as np
+
+    lcms = ctypes.CDLL(ctypes.util.find_library("lcms2"))
+    lcms.cmsOpenProfileFromMem.restype = lcms.cmsCreateTransform.restype = ctypes.c_void_p
+    data = link(table)
+    profile = ctypes.c_void_p(lcms.cmsOpenProfileFromMem(data, ctypes.c_uint32(len(data))))
+    numbers = map(ctypes.c_uint32, (TYPE_RGB_16, TYPE_CMYK_16, 1, HIGH_RESOLUTION))
+    source, target, intent, flags = numbers
+    change = ctypes.c_void_p(lcms.cmsCreateTransform(profile, source, None, target, intent, flags))
+    if not change:
+        raise OSError(None, "lcms can't use the link of neutral colours", "liblcms2")
+    given = np.repeat(np.arange(steps, dtype=np.uint16)[:, None], 3, axis=1)
+    made = np.zeros((steps, 4), np.uint16)
+    lcms.cmsDoTransform(
+        change, ctypes.c_void_p(given.ctypes.data), ctypes.c_void_p(made.ctypes.data), ctypes.c_uint32(steps)
+    )
+    lcms.cmsDeleteTransform(change)
+    lcms.cmsCloseProfile(profile)
+    return (made[:, 3] >> 8).astype(np.uint8).tobytes()
+
+
 def write(path, data):
     with open(path, "wb") as file:
         file.write(data)
 
 
 def write_profiles(folder, profile):
-    """Writes what Ghostscript reads: `press.icc`; `colour.txt`, which pages are made with; and `marked.txt`.
+    """Writes what Ghostscript reads: `press.icc`; `colour.txt`, which pages are made with; and `marked.txt`. Also
+    writes `neutral.bin`, the black ink of neutral colours.
 
-    Rendered with `marked.txt` instead of `colour.txt`, a page differs wherever RGB shows, except in white and
-    in neutral text and line art. CMYK keeps its numbers.
+    Rendered with `marked.txt` instead of `colour.txt`, a page differs wherever RGB shows, except in white. CMYK
+    keeps its numbers.
     """
     import numpy as np
 
@@ -95,16 +126,16 @@ def write_profiles(folder, profile):
     shutil.copyfile(profile or PLAIN, press)
     table = converted(press)
     neutral = np.arange(SIDE)
-    art = table.copy()
-    art[neutral, neutral, neutral] = [(0, 0, 0, black) for black in blacks(press)]
-    art[-1, -1, -1] = table[-1, -1, -1] = 0
-    marked_art, marked = 255 - art, 255 - table
-    marked_art[neutral, neutral, neutral] = art[neutral, neutral, neutral]
+    grey = table.copy()
+    grey[neutral, neutral, neutral] = [(0, 0, 0, black) for black in blacks(press)]
+    grey[-1, -1, -1] = table[-1, -1, -1] = 0
+    marked = 255 - table
     marked[-1, -1, -1] = 0
-    for name, data in (("art", art), ("marked-art", marked_art), ("marked-images", marked)):
+    write(os.path.join(folder, "neutral.bin"), neutral_inks(grey))
+    for name, data in (("art", table), ("marked", marked)):
         write(os.path.join(folder, f"{name}.icc"), link(data))
-    for name, first in (("colour", ""), ("marked", "marked-")):
-        rows = [f"{kind}_RGB\t{first}art.icc\t1\t1\t1" for kind in ("Text", "Graphic")]
-        rows += [f"Image_RGB\t{first}images.icc\t1\t1\t1"] if first else []
+    for name, first in (("colour", "art"), ("marked", "marked")):
+        rows = [f"{kind}_RGB\t{first}.icc\t1\t1\t1" for kind in ("Text", "Graphic")]
+        rows += ["Image_RGB\tmarked.icc\t1\t1\t1"] if first == "marked" else []
         # Rows for CMYK would turn off overprint mode 1, with which black overprints on nearly every page.
         write(os.path.join(folder, f"{name}.txt"), ("\n".join(rows) + "\n").encode())

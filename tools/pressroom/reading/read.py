@@ -1,0 +1,179 @@
+"""Reads the first page of a PDF, and writes an edited copy that Ghostscript paints right.
+
+intake runs this file as a process of its own, under limits, in the page's folder. Its one argument is the name of the
+PDF. It writes `edited.pdf`, if something has to change, and `read.json`: a fault as its kind and text, or what the
+page is and shows. The file `neutral.bin` has the black ink of 65536 neutral colours.
+"""
+import json
+import os
+import sys
+from typing import TypedDict
+
+# By default OpenBLAS starts a thread for each processor, and their memory counts against the limit.
+os.environ["OPENBLAS_NUM_THREADS"] = "1"
+sys.path.insert(0, os.path.dirname(os.path.dirname(os.path.dirname(os.path.abspath(__file__)))))
+import pikepdf
+
+from pressroom.reading.boxes import page_boxes, rotation, unit
+from pressroom.reading.colours import State
+from pressroom.reading.facts import Facts, facts_of
+from pressroom.reading.objects import (
+    Unreadable, copied, get, identity, is_array, is_dictionary, is_stream, items, name,
+)  # fmt: skip
+from pressroom.reading.optional import Optional
+from pressroom.reading.resources import Resources
+from pressroom.reading.spaces import Blacks
+from pressroom.reading.walk import Walk, readable
+from pressroom.reading.boxes import inherited
+
+
+class Read(TypedDict):
+    """What is read of a page: boxes in units of the page, the unit in points, and what the page shows."""
+
+    trim: tuple[float, float, float, float]
+    crop: tuple[float, float, float, float]
+    trimmed: bool
+    turn: int
+    unit: float
+    count: int
+    rgb: bool
+    lab: bool
+    blending: bool
+    strips: bool
+    fonts: list[str]
+    edited: bool
+
+
+class Page:
+    """The first page of a PDF that is being read and edited."""
+
+    def __init__(self, pdf: pikepdf.Pdf, blacks: Blacks) -> None:
+        self.pdf, self.page = pdf, first_page(pdf)
+        self.optional = Optional(pdf.Root)
+        self.facts = facts_of(self.page)
+        self.walk = Walk(pdf, self.optional, blacks, self.facts.circular)
+        self.changed = self.facts.changed or self.optional.exists
+
+    def read(self) -> Read:
+        """Follows the page, changes it, and returns what it shows."""
+        trim, crop = page_boxes(self.page)
+        self.edit_contents()
+        self.edit_annotations()
+        self.edit_group()
+        if self.optional.exists:
+            del self.pdf.Root["/OCProperties"]
+        walk, facts = self.walk, self.facts
+        return {
+            "trim": trim,
+            "crop": crop,
+            "trimmed": get(self.page, b"/TrimBox") is not None,
+            "turn": rotation(self.page),
+            "unit": unit(self.page),
+            "count": len(self.pdf.pages),
+            "rgb": walk.rgb or walk.colours.rgb or walk.shadings.rgb,
+            "lab": walk.colours.lab or walk.shadings.lab,
+            "blending": facts.rgb_groups,
+            "strips": not facts.blends and not facts.overprints and len(facts.spots) < 2,
+            "fonts": sorted(walk.fonts),
+            "edited": self.changed,
+        }
+
+    def edit_contents(self) -> None:
+        """Follows the page's own content streams, which count as one."""
+        contents = get(self.page, b"/Contents")
+        parts = list(contents) if is_array(contents) else [contents]  # type: ignore[call-overload]
+        data = b"\n".join(readable(part, "the page") for part in parts if is_stream(part))
+        own = Resources(inherited(self.page, b"/Resources"), "the page")
+        text, resources = self.walk.stream(data, own, State(), False)
+        if text is not None:
+            self.page[b"/Contents"] = self.pdf.make_indirect(pikepdf.Stream(self.pdf, text))
+        if resources is not None:
+            self.page[b"/Resources"] = resources
+        self.changed |= text is not None or resources is not None
+
+    def edit_annotations(self) -> None:
+        """Follows the appearances of annotations, and removes those that don't print."""
+        annotations = get(self.page, b"/Annots")
+        if not is_array(annotations):
+            return
+        kept = [item for item in annotations if self.optional.shows(get(item, b"/OC"))]  # type: ignore[attr-defined]
+        if len(kept) != len(annotations):  # type: ignore[arg-type]
+            self.page[b"/Annots"] = pikepdf.Array(kept)
+            self.changed = True
+        for item in kept:
+            self.edit_appearance(item)
+
+    def edit_appearance(self, annotation: pikepdf.Object) -> None:
+        """Follows what an annotation shows. Ghostscript draws some that have no appearance, perhaps in RGB."""
+        look = get(get(annotation, b"/AP"), b"/N")
+        if look is None:
+            self.walk.rgb |= name(get(annotation, b"/Subtype")) not in (b"/Link", b"/Popup")
+            return
+        where = f"the annotation {name(get(annotation, b'/Subtype')).decode('latin-1')[1:]}"
+        states = [(b"", look)] if is_stream(look) else list(items(look))
+        for word, stream in states:
+            if not is_stream(stream) or not self.optional.shows(get(stream, b"/OC")):
+                continue
+            new = self.walk.content(stream, None, where, State(), False)
+            if new is stream:
+                continue
+            self.changed = True
+            if word:
+                look[word] = new
+            else:
+                annotation[b"/AP"][b"/N"] = new
+
+    def edit_group(self) -> None:
+        """Makes the page blend in CMYK. Without a group of the page Ghostscript 10.00 takes a grey mask for linear."""
+        group = get(self.page, b"/Group")
+        space = get(group, b"/CS")
+        if name(space) == b"/DeviceCMYK" or (space is None and not self.walk.luminous):
+            return
+        made = copied(group) if is_dictionary(group) else pikepdf.Dictionary(S=pikepdf.Name("/Transparency"))
+        made[b"/CS"] = pikepdf.Name("/DeviceCMYK")
+        self.page[b"/Group"] = made
+        self.changed = True
+
+
+def first_page(pdf: pikepdf.Pdf) -> pikepdf.Object:
+    """Returns the first page."""
+    if not len(pdf.pages):
+        raise Unreadable("damaged", "damaged: it has no page")
+    return pdf.pages[0].obj
+
+
+def read(path: str, blacks: Blacks) -> Read:
+    """Reads a PDF. Writes the edited copy."""
+    with pikepdf.open(path, suppress_warnings=True) as pdf:
+        page = Page(pdf, blacks)
+        found = page.read()
+        if found["edited"]:
+            pdf.save("edited.pdf", compress_streams=False, stream_decode_level=pikepdf.StreamDecodeLevel.none)
+    return found
+
+
+def answer(path: str) -> Read | list[str]:
+    """Returns what a PDF's first page is, or a fault as its kind and text."""
+    with open("neutral.bin", "rb") as file:
+        blacks = Blacks(file.read())
+    try:
+        return read(path, blacks)
+    except Unreadable as error:
+        return [error.kind, str(error)]
+    except pikepdf.PasswordError:
+        return ["locked", "it needs a password"]
+    except pikepdf.PdfError as error:
+        return ["damaged", f"damaged: {str(error).removeprefix(path).lstrip(': ')}"]
+    except (ArithmeticError, AttributeError, LookupError, RecursionError, TypeError, ValueError) as error:
+        return ["damaged", f"damaged: its objects are malformed: {error}"]
+
+
+def main() -> int:
+    found = answer(sys.argv[1])
+    with open("read.json", "w", encoding="utf-8", errors="surrogateescape") as file:
+        json.dump(found, file)
+    return 0
+
+
+if __name__ == "__main__":
+    sys.exit(main())
