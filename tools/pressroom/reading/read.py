@@ -101,6 +101,8 @@ class Page:
             self.page[b"/Annots"] = pikepdf.Array(kept)
             self.changed = True
         for item in kept:
+            if get(item, b"/OC") is not None:
+                del item[b"/OC"]
             self.edit_appearance(item)
 
     def edit_appearance(self, annotation: pikepdf.Object) -> None:
@@ -112,10 +114,13 @@ class Page:
         where = f"the annotation {name(get(annotation, b'/Subtype')).decode('latin-1')[1:]}"
         states = [(b"", look)] if is_stream(look) else list(items(look))
         for word, stream in states:
-            if not is_stream(stream) or not self.optional.shows(get(stream, b"/OC")):
+            if not is_stream(stream):
                 continue
+            if not self.optional.shows(get(stream, b"/OC")):
+                stream = self.pdf.make_indirect(pikepdf.Stream(self.pdf, b""))
+                stream.stream_dict = pikepdf.Dictionary(Subtype=pikepdf.Name("/Form"), BBox=[0, 0, 1, 1])
             new = self.walk.content(stream, None, where, State(), False)
-            if new is stream:
+            if new is get(look, word) or new is look:
                 continue
             self.changed = True
             if word:

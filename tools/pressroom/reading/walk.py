@@ -227,7 +227,7 @@ class Reader:
         elif operator in TEXT:
             return self.shown_text(instruction)
         elif operator in (b"BDC", b"BMC", b"EMC"):
-            self.mark(instruction)
+            return self.mark(instruction)
         elif operator in (b"Do", b"sh", b"BI") or (operator in PAINTING and self.hidden):
             if self.hidden:
                 return b"n" if operator in PAINTING else b""
@@ -245,8 +245,9 @@ class Reader:
         self.state, text = self.walk.colours.set(instruction, self.state, self.resources, self.mask)
         return text
 
-    def mark(self, instruction: Instruction) -> None:
-        """Follows a mark of content, which may be optional."""
+    def mark(self, instruction: Instruction) -> bytes | None:
+        """Follows a mark of content, which may be optional. What shows is marked as such no longer."""
+        text = None
         if instruction.operator == b"EMC":
             if self.marks and self.marks.pop():
                 self.hidden -= 1
@@ -255,10 +256,11 @@ class Reader:
             if instruction.operator == b"BDC" and instruction.operands[:1] == (b"/OC",):
                 word = instruction.operands[-1]
                 group = self.resources.find(b"/Properties", word) if isinstance(word, bytes) else None
-                hides = not self.walk.optional.shows(group)
+                hides, text = not self.walk.optional.shows(group), b"/OC BMC"
             self.marks.append(hides)
             self.hidden += hides
         self.watch.painting = self.hidden > 0
+        return text
 
     def shown_text(self, instruction: Instruction) -> bytes | None:
         """Follows an operator that shows text."""
@@ -313,8 +315,10 @@ class Reader:
             self.resources.change(b"/Shading", word, old, self.walk.shadings.changed(old, where, self.mask))
             return None
         old = self.resources.needed(b"/XObject", word, "object")
-        if not self.walk.optional.shows(get(old, b"/OC")):
-            return b""
+        if (group := get(old, b"/OC")) is not None:
+            if not self.walk.optional.shows(group):
+                return b""
+            del old[b"/OC"]
         kind = name(get(old, b"/Subtype"))
         if not is_stream(old):
             raise Unreadable("damaged", f"damaged: object {shown(word)} of {self.resources.where} isn't a stream")
