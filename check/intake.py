@@ -304,11 +304,11 @@ def see_hostile(results, folder):
     pages.write("A5", BLACK)
     pages.write("A6", BLACK)
     before = snapshot(folder, pages)
-    found, status = intake(pages, pages.house(colour="convert"), "--seconds", "12", "--memory", "100")
+    found, status = intake(pages, pages.house(colour="convert"), "--seconds", "12", "--memory", "150")
     texts = {item["file"]: item["text"] for item in found if item["event"] in ("fault", "note")}
     for file, pattern in (
         ("A1.pdf", "gs took more than 12 s"),
-        ("A2.pdf", "needed more than 100 MB of memory"),
+        ("A2.pdf", "needed more than 150 MB of memory"),
         ("A3.pdf", "damaged"),
         ("A4.pdf", "mixed into CMYK"),
     ):

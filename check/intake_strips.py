@@ -13,9 +13,9 @@ sys.path[:0] = [NEWSPAPER, os.path.join(TOP, "tools")]
 from pdf import Pdf
 from pressroom.base.limits import Limits
 from pressroom.intake import profiles
-from pressroom.intake.contents import has_no_rgb
 from pressroom.intake.ghostscript import Ghostscript
 from pressroom.intake.pdf import Refused, inspect
+from pressroom.reading.tokens import Watch, instructions
 from pressroom.tiff.tiff import Tiff
 
 # 60.96 by 81.28 mm: 14 million pixels.
@@ -38,7 +38,7 @@ def picture(space, count, side=40):
 KINDS = {
     "black": (TEXTS + CURVE, False, True),
     "picture": (picture("/DeviceCMYK", 4) + TEXTS, False, True),
-    "picture in the line": (picture("/DeviceCMYK", 4, 16) + TEXTS, True, True),
+    "picture in the line": (picture("/DeviceCMYK", 4, 16) + TEXTS, False, True),
     "rgb": (picture("/DeviceRGB", 3) + TEXTS, True, True),
     "rgb text": (TEXTS.replace("0 0 0 1 setcmykcolor", "0.2 0.4 0.1 setrgbcolor"), True, True),
     "house": (picture("/DeviceCMYK", 4) + SPOT.format("HOUSE", 1, 20) + SPOT.format("HOUSE", 0.3, 50), False, True),
@@ -47,17 +47,19 @@ KINDS = {
     "overprint": (picture("/DeviceCMYK", 4) + "true setoverprint\n" + TEXTS, False, False),
     "transparent": (picture("/DeviceCMYK", 4) + "0.5 .setfillconstantalpha\n" + TEXTS, False, False),
 }
+# Content streams, and the colour operators that stand in them.
 CONTENTS = (
-    (b"0 0 0 1 k (large Norge) Tj [(a\\)rg)-20(RG)] TJ /P <</MCID 0>> BDC", True),
-    (b"1 0 0 rg", False),
-    (b"1 0 0 RG", False),
-    (b"q1 0 0rgQ", False),
-    (b"/DeviceRGB cs 1 0 0 sc", False),
-    (b"(a) Tj % (\n1 0 0 rg\n% )", False),
-    (b"((a) b) Tj 1 0 0 k", False),
-    (b"BI /W 1 /H 1 /CS /G /BPC 8 ID ( EI 1 0 0 rg )", False),
-    (b"(a Tj 1 0 0 rg", False),
-    (None, False),
+    (b"0 0 0 1 k (large Norge) Tj [(a\\)rg)-20(RG)] TJ /P <</MCID 0>> BDC", ["k"]),
+    (b"1 0 0 rg", ["rg"]),
+    (b"1 0 0 RG", ["RG"]),
+    (b"q1 0 0rgQ", ["rg"]),
+    (b"/DeviceRGB cs 1 0 0 sc", ["cs", "sc"]),
+    (b"(a) Tj % (\n1 0 0 rg\n% )", ["rg"]),
+    (b"((a) b) Tj 1 0 0 k", ["k"]),
+    (b"BI /W 1 /H 1 /CS /G /BPC 8 ID ( EI 1 0 0 rg )", ["rg"]),
+    (b"BI /W 8 /H 1 /CS /G /BPC 8 ID  EI RG k EI 1 0 0 rg", ["rg"]),
+    (b"[(a) 1 (b\\)) <72672072> (rg) 0.5] TJ << /A (rg) /B << /C [/rg] >> >> 1 0 0 rg", ["rg"]),
+    (b"(a Tj 1 0 0 rg", []),
 )
 
 
@@ -75,7 +77,9 @@ def files(folder):
 def see_strips(results, folder):
     """Tests each kind of page, painted in strips and rendered to a file."""
     for text, right in CONTENTS:
-        results.see(has_no_rgb(text) == right, f"{text!r}: has_no_rgb returns {has_no_rgb(text)}")
+        found = [item.operator.decode() for item in instructions(text, Watch())]
+        found = [word for word in found if word in ("rg", "RG", "k", "cs", "sc")]
+        results.see(found == right, f"{text!r}: the colour operators are {found}")
     given = os.path.join(folder, "strips")
     os.makedirs(given)
     profiles.write_profiles(given, PROFILE)

@@ -4,8 +4,6 @@ import pikepdf
 from pressroom.reading.objects import Unreadable, get, number, numbers
 
 Box = tuple[float, float, float, float]
-# The media box of a page that has none.
-LETTER: Box = (0.0, 0.0, 612.0, 792.0)
 MOST_DEPTH = 100
 
 
@@ -42,7 +40,9 @@ def clipped(box: Box, edge: Box) -> Box:
 
 def page_boxes(page: pikepdf.Object) -> tuple[Box, Box]:
     """Returns the trim box and the crop box in units of the page."""
-    media = box_of(inherited(page, b"/MediaBox")) or LETTER
+    media = box_of(inherited(page, b"/MediaBox"))
+    if media is None:
+        raise Unreadable("damaged", "damaged: it has no media box")
     crop = clipped(box_of(inherited(page, b"/CropBox")) or media, media)
     own = get(page, b"/TrimBox")
     trim = box_of(own)

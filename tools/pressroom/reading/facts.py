@@ -15,6 +15,8 @@ AWAY = {
     b"/StructParents", b"/StructParent", b"/FontDescriptor", b"/ToUnicode", b"/Widths", b"/W", b"/DescendantFonts",
     b"/Encoding", b"/Differences",
 }  # fmt: skip
+# Keys of dictionaries whose own keys, or whose values' keys, are names of the file's own.
+NAMED = {b"/Resources": 2, b"/AP": 2, b"/CharProcs": 1}
 # Keys of transparency, and their values for opaque objects.
 OPAQUE: dict[bytes, tuple[object, ...]] = {
     b"/SMask": (b"/None",),
@@ -47,9 +49,9 @@ def facts_of(page: pikepdf.Object) -> Facts:
     facts = Facts()
     entered: set[object] = set()
     done: set[object] = set()
-    stack: list[tuple[pikepdf.Object, bool]] = [(page, False)]
+    stack: list[tuple[pikepdf.Object, bool, int]] = [(page, False, 0)]
     while stack:
-        value, leaves = stack.pop()
+        value, leaves, named = stack.pop()
         mark = identity(value)
         if leaves:
             entered.discard(mark)
@@ -61,11 +63,11 @@ def facts_of(page: pikepdf.Object) -> Facts:
             if mark in entered or mark in done:
                 continue
             entered.add(mark)
-            stack.append((value, True))
+            stack.append((value, True, 0))
         if is_array(value):
-            stack += [(item, False) for item in in_array(value, facts)]
+            stack += [(item, False, 0) for item in in_array(value, facts)]
         else:
-            stack += [(item, False) for item in in_dictionary(value, facts, value is page)]
+            stack += [(item, False, level) for item, level in in_dictionary(value, facts, value is page, named)]
     facts.rgb_groups = any(is_rgb for mark, is_rgb in facts.groups if mark is None or mark not in facts.masks)
     return facts
 
@@ -89,11 +91,15 @@ def in_array(value: pikepdf.Object, facts: Facts) -> list[pikepdf.Object]:
     return found
 
 
-def in_dictionary(value: pikepdf.Object, facts: Facts, is_page: bool) -> list[pikepdf.Object]:
-    """Looks at a dictionary or a stream. Returns the arrays and dictionaries within it."""
+def in_dictionary(
+    value: pikepdf.Object, facts: Facts, is_page: bool, named: int
+) -> list[tuple[pikepdf.Object, int]]:
+    """Looks at a dictionary or a stream. Returns the arrays and dictionaries within it, each with how many levels
+    below it have keys that are names of the file's own.
+    """
     found = []
     for key, item in list(items(value)):
-        if key in AWAY:
+        if key in AWAY and named != 1:
             continue
         plain = untagged(item)
         if key in (b"/DefaultGray", b"/DefaultCMYK"):
@@ -103,7 +109,8 @@ def in_dictionary(value: pikepdf.Object, facts: Facts, is_page: bool) -> list[pi
             value[key] = plain
             facts.changed = True
         elif is_array(item) or is_dictionary(item):
-            found.append(item)
+            level = 0 if is_stream(item) else named - 1 if named > 1 else NAMED.get(key, 0) if not named else 0
+            found.append((item, level))
         see_key(value, key, item, facts, is_page)
     return found
 
@@ -119,5 +126,5 @@ def see_key(holder: pikepdf.Object, key: bytes, value: object, facts: Facts, is_
         facts.blends |= word not in OPAQUE[key]
     elif key in (b"/OP", b"/op"):
         facts.overprints |= value is not False
-    elif key == b"/G" and is_stream(value) and name(get(holder, b"/S")) == b"/Luminosity":
+    elif key == b"/G" and is_stream(value) and name(get(holder, b"/S")) in (b"/Luminosity", b"/Alpha"):
         facts.masks.add(identity(value))

@@ -26,16 +26,15 @@ def lattice(
     xs, ys = xs * a + ys * c + e, xs * b + ys * d + f
     parts, decode = [], []
     for part, low, high in ((xs, xs.min(), xs.max()), (ys, ys.min(), ys.max())):
-        parts.append(((part - low) / ((high - low) or 1) * (2**32 - 1)).round().astype(">u4").tobytes())
+        parts.append(((part - low) / ((high - low) or 1) * 65535).round().astype(">u2").tobytes())
         decode += [float(low), float(high) if high > low else float(low) + 1]
     for part, (low, high) in zip(values, limits):
         steps = np.clip((part - low) / ((high - low) or 1), 0, 1) * 65535
         parts.append((steps + 0.5).astype(">u2").tobytes())
         decode += [float(low), float(high)]
-    widths = [4, 4] + [2] * count
-    table = [np.frombuffer(part, np.uint8).reshape(-1, width) for part, width in zip(parts, widths)]
+    table = [np.frombuffer(part, np.uint8).reshape(-1, 2) for part in parts]
     stream = pikepdf.Stream(
-        pdf, np.concatenate(table, axis=1).tobytes(), ShadingType=5, BitsPerCoordinate=32, BitsPerComponent=16,
+        pdf, np.concatenate(table, axis=1).tobytes(), ShadingType=5, BitsPerCoordinate=16, BitsPerComponent=16,
         VerticesPerRow=columns, Decode=decode,
     )  # fmt: skip
     return pdf.make_indirect(stream)

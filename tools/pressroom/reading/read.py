@@ -150,6 +150,9 @@ def first_page(pdf: pikepdf.Pdf) -> pikepdf.Object:
 def read(path: str, blacks: Blacks) -> Read:
     """Reads a PDF. Writes the edited copy."""
     with pikepdf.open(path, suppress_warnings=True) as pdf:
+        first_page(pdf)
+        if any("deeply nested" in str(warning) for warning in pdf.get_warnings()):
+            raise Unreadable("damaged", "damaged: its objects are nested too deeply")
         page = Page(pdf, blacks)
         found = page.read()
         if found["edited"]:
