@@ -5,7 +5,7 @@ python3 check/intake.py PROGRAM
 
 The pages are PDFs made with Ghostscript's pdfwrite, with the other PDF writers that are installed, and by
 hand. The check counts the pixels on their plates, or compares the plates with poppler's rendering. It needs
-Ghostscript, qpdf, poppler-utils, libtiff-tools, numpy and Pillow, and is skipped without them. The last line
+Ghostscript, qpdf, poppler-utils, libtiff-tools, numpy, Pillow and pikepdf, and is skipped without them. The last line
 is `N passed, M failed`, and the status is 1 if a test failed.
 """
 import json
@@ -20,7 +20,9 @@ import time
 
 sys.dont_write_bytecode = True
 from intake_corpus import see_corpus
+from intake_ink import see_ink
 from intake_pages import HOUSE, Pages, fields, intake, missing_program, plates_of
+from intake_refused import see_words
 from intake_strips import see_strips
 from newspaper import NEWSPAPER, TOP, Results, missing
 
@@ -561,7 +563,7 @@ def see_newspaper(results, program, folder):
 def main():
     if len(sys.argv) != 2:
         sys.exit(__doc__.splitlines()[2].strip())
-    lacking = missing("PIL", "numpy") or missing_program("gs", "qpdf", "pdfinfo", "pdftoppm", "tiffcp", "prlimit")
+    lacking = missing("PIL", "numpy", "pikepdf") or missing_program("gs", "qpdf", "pdftoppm", "tiffcp", "prlimit")
     if lacking:
         print(f"skipped: {lacking} isn't installed")
         Results().end()
@@ -572,6 +574,8 @@ def main():
             (see_pixels, (results, program, folder)),
             (see_strips, (results, folder)),
             (see_colours, (results, program, folder)),
+            (see_ink, (results, folder)),
+            (see_words, (results, folder)),
             (see_told, (results, folder)),
             (see_tiffs, (results, program, folder)),
             (see_changes, (results, program, folder)),

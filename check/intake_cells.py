@@ -29,7 +29,8 @@ Ink = tuple[float, ...]
 class Sheet:
     """A page of cells: its objects, which may name each other as {name}, its resources and its cells with their ink.
 
-    `objects` has the text of a dictionary, or that of a stream and its data.
+    `objects` has the text of a dictionary, or that of a stream and its data. `first` and `extra` are bytes before and
+    after the file, and `unit` is the page's.
     """
 
     cells: dict[str, tuple[str, Ink]] = field(default_factory=dict)
@@ -40,6 +41,8 @@ class Sheet:
     notes: tuple[str, ...] = ()
     before: str = ""
     extra: bytes = b""
+    unit: float = 1
+    first: bytes = b""
 
     def write(self, path: str) -> None:
         """Writes the page as a PDF."""
@@ -52,17 +55,20 @@ class Sheet:
             else:
                 pdf.add(named(text, numbers), data)
         stream, count = pdf.add("", self.content().encode()), len(pdf.objects)
-        box = f"[0 0 {SIDE:.4f} {SIDE:.4f}]"
+        box = f"[0 0 {SIDE / self.unit:.4f} {SIDE / self.unit:.4f}]"
         head = f"/Type /Page /Parent {count + 2} 0 R /MediaBox {box} /TrimBox {box} /Contents {stream} 0 R"
         pdf.add(f"<< {head} /Resources << {named(self.resources, numbers)} >> {named(self.keys, numbers)} >>")
         pdf.add(f"<< /Type /Pages /Kids [{count + 1} 0 R] /Count 1 >>")
         pdf.write(path, pdf.add(f"<< /Type /Catalog /Pages {count + 2} 0 R {named(self.root, numbers)} >>"))
-        with open(path, "ab") as file:
-            file.write(self.extra)
+        with open(path, "rb") as file:
+            data = file.read()
+        with open(path, "wb") as file:
+            file.write(self.first + data + self.extra)
 
     def content(self) -> str:
         """Returns the page's content stream."""
-        text = f"q {MILLIMETRE:.6f} 0 0 {MILLIMETRE:.6f} 0 0 cm {self.before}\n"
+        one = f"{MILLIMETRE / self.unit:.6f}"
+        text = f"q {one} 0 0 {one} 0 0 cm {self.before}\n"
         for number, (content, _) in enumerate(self.cells.values()):
             x, y = place(number)
             text += f"q 1 0 0 1 {x} {y} cm {content} Q\n"
@@ -111,12 +117,21 @@ def middle(made: object, number: int, dpi: int) -> Ink:
 
 def house(count: int, dpi: int, rgb: str = "convert") -> str:
     """Returns the text of a house file for pages of cells."""
-    lines = ['edition = "E1"', f"dpi = {dpi}", f"trim = [{SIZE}, {SIZE}]", "[sections]", f"A = {count}", "[spot]"]
+    lines = [
+        'edition = "E1"',
+        f"dpi = {dpi}",
+        f"trim = [{SIZE}, {SIZE}]",
+        "[sections]",
+        f"A = {count}",
+        "[spot]",
+    ]
     lines += ['separation = "HOUSE"', 'colour = "#ff8800"', "[colour]", f'rgb = "{rgb}"', 'spots = "mix"']
     return "\n".join([*lines, f'profile = "{PROFILE}"', "[sites.OSLO]"]) + "\n"
 
 
-def see_sheets(results: object, folder: str, name: str, sheets: dict[str, Sheet], dpis: Iterable[int]) -> None:
+def see_sheets(
+    results: object, folder: str, name: str, sheets: dict[str, Sheet], dpis: Iterable[int]
+) -> None:
     """Makes pages of cells at each resolution, and compares the ink of each cell and the notes of each page."""
     pages = Pages(folder, name, count=len(sheets) + len(sheets) % 2)
     for number, sheet in enumerate(sheets.values(), 1):
@@ -126,11 +141,15 @@ def see_sheets(results: object, folder: str, name: str, sheets: dict[str, Sheet]
         plan = fields(os.path.join(pages.work, "plan.json"))
         layers = {page["name"]: page for page in plan["pages"]} if plan else {}
         for number, (kind, sheet) in enumerate(sheets.items(), 1):
-            said = [item for item in found if item.get("file") == f"A{number}.pdf" and item["event"] != "page"]
+            said = [
+                item for item in found if item.get("file") == f"A{number}.pdf" and item["event"] != "page"
+            ]
             kinds = tuple(sorted({item["kind"] for item in said}))
             results.see(kinds == sheet.notes, f"{kind} at {dpi}: {said}")  # type: ignore[attr-defined]
             if f"A{number:02}" in layers:
-                see_cells(results, f"{kind} at {dpi}", sheet, planes(pages.work, layers[f"A{number:02}"], dpi), dpi)
+                see_cells(
+                    results, f"{kind} at {dpi}", sheet, planes(pages.work, layers[f"A{number:02}"], dpi), dpi
+                )
             elif "damaged" not in kinds:
                 results.see(False, f"{kind} at {dpi}: not made: {said}")  # type: ignore[attr-defined]
 

@@ -52,7 +52,9 @@ def mask_sheet(group, keys):
     half = ".5 .5 .5"
     pattern = f"<< /PatternType 2 /Shading {axial('/DeviceRGB', half, half)} >>"
     type3 = "<< /Type /Font /Subtype /Type3 /FontBBox [0 0 1 1] /FontMatrix [1 0 0 1 0 0] /FirstChar 65 /LastChar 65 "
-    type3 += "/Widths [1] /Encoding << /Differences [65 /A] >> /CharProcs << /A {glyph} >> /Resources << >> >>"
+    type3 += (
+        "/Widths [1] /Encoding << /Differences [65 /A] >> /CharProcs << /A {glyph} >> /Resources << >> >>"
+    )
     space = "/ColorSpace << /I [/ICCBased {srgb}] /X [/Indexed /DeviceRGB 1 <000000808080>] /P [/Pattern /DeviceRGB] >>"
     mesh = bytes.fromhex("".join(f"00{x:04x}{y:04x}808080" for x, y in ((0, 0), (0xFFFF, 0), (0, 0xFFFF))))
     objects, states = masked(
@@ -76,7 +78,10 @@ def mask_sheet(group, keys):
     )
     objects |= {
         "srgb": ("/N 3", profile("srgb")),
-        "stencil": ("/Type /XObject /Subtype /Image /Width 8 /Height 1 /ImageMask true /BitsPerComponent 1", b"\0"),
+        "stencil": (
+            "/Type /XObject /Subtype /Image /Width 8 /Height 1 /ImageMask true /BitsPerComponent 1",
+            b"\0",
+        ),
         "glyph": ("", b"1 0 0 0 1 1 d1 0 0 1 1 re f"),
         "type3": type3,
         "inner": form(f"{half} rg {FILL}"),
@@ -101,14 +106,18 @@ def mask_sheet(group, keys):
 def more_masks():
     """Returns a page of masks of other kinds, most of which must not change."""
     states = "/Alpha << /SMask << /S /Alpha /G {alpha} >> >> /Lum << /SMask << /S /Luminosity /G {lum} >> >> "
-    states += "/Twice << /SMask << /S /Luminosity /G {twice} >> >> /Half << /ca .5 >> /None << /SMask /None >> "
+    states += (
+        "/Twice << /SMask << /S /Luminosity /G {twice} >> >> /Half << /ca .5 >> /None << /SMask /None >> "
+    )
     states += "/Wide << /SMask << /S /Luminosity /G {pictures} >> >> /Bits << /SMask << /S /Luminosity /G {bits} >> >> "
     states += "/Table << /SMask << /S /Luminosity /G {table} >> >> /Turned << /SMask << /S /Luminosity /G {turned} >> >>"
     group = "/Group << /S /Transparency /CS /DeviceRGB >>"
     objects = {
         "alpha": form("/H gs 1 0 0 rg 0 0 20 20 re f", group, "/ExtGState << /H << /ca .5 >> >>"),
         "lum": form(".5 .5 .5 rg 0 0 20 20 re f", group),
-        "twice": form(f"/L gs 1 1 1 rg {FILL}", group, "/ExtGState << /L << /SMask << /S /Luminosity /G {lum} >> >> >>"),
+        "twice": form(
+            f"/L gs 1 1 1 rg {FILL}", group, "/ExtGState << /L << /SMask << /S /Luminosity /G {lum} >> >> >>"
+        ),
         "pictures": form("q 20 0 0 20 0 0 cm /I Do Q", group, "/XObject << /I {sixteen} >>"),
         "bits": form("q 20 0 0 20 0 0 cm /I Do Q", group, "/XObject << /I {four} >>"),
         "table": form("q 20 0 0 20 0 0 cm /I Do Q", group, "/XObject << /I {indexed} >>"),
@@ -119,7 +128,11 @@ def more_masks():
         "inverse": image(b"\x33" * 48, "/DeviceRGB", keys="/Decode [1 0 1 0 1 0]"),
         "soft": image(b"\0\xff\0\0", "/DeviceCMYK", side=1, keys="/SMask {softness}"),
         "softness": image(b"\x80", "/DeviceGray", side=1),
-        "both": form(f"/Lum gs .8 0 0 0 k {FILL}", "", "/ExtGState << /Lum << /SMask << /S /Luminosity /G {lum} >> >> >>"),
+        "both": form(
+            f"/Lum gs .8 0 0 0 k {FILL}",
+            "",
+            "/ExtGState << /Lum << /SMask << /S /Luminosity /G {lum} >> >> >>",
+        ),
     }
     paint = f"gs .8 0 0 0 k {FILL}"
     cells = {
@@ -146,7 +159,9 @@ def groups():
         for more, name in (("", space), ("/I true", f"{space}I"), ("/K true", f"{space}K")):
             objects[name] = form(FILL, f"/Group << /S /Transparency /CS {value} {more} >>")
             names += f"/{name} {{{name}}} "
-    objects["outer"] = form("/F Do", "/Group << /S /Transparency /CS /DeviceRGB >>", "/XObject << /F {DeviceGray} >>")
+    objects["outer"] = form(
+        "/F Do", "/Group << /S /Transparency /CS /DeviceRGB >>", "/XObject << /F {DeviceGray} >>"
+    )
     objects["line"] = form("20 w 0 10 m 20 10 l S", "/Group << /S /Transparency /CS /DeviceGray >>")
     objects["own"] = form(f".4 .3 0 0 k {FILL}", "/Group << /S /Transparency /CS /DeviceGray >>")
     objects |= {"srgb": ("/N 3", profile("srgb")), "dgrey": ("/N 1", profile("default_gray"))}
@@ -221,7 +236,10 @@ def neutrals():
     type3 += "/Resources << >> >>"
     objects = {
         "srgb": ("/N 3", profile("srgb")),
-        "stencil": ("/Type /XObject /Subtype /Image /Width 8 /Height 1 /ImageMask true /BitsPerComponent 1", b"\0"),
+        "stencil": (
+            "/Type /XObject /Subtype /Image /Width 8 /Height 1 /ImageMask true /BitsPerComponent 1",
+            b"\0",
+        ),
         "plain": ("", b"1 0 0 0 1 1 d1 0 0 1 1 re f"),
         "painted": ("", b"1 0 d0 0 0 0 rg 0 0 1 1 re f"),
         "type3": type3,
@@ -236,7 +254,9 @@ def neutrals():
         "fills": form(FILL),
         "sets": form(f".5 .5 .5 sc {FILL}"),
     }
-    resources = f"/ColorSpace << {spaces} >> /Font << /T {{type3}} >> /Pattern << /U {{tile}} /V {{coloured}} >> "
+    resources = (
+        f"/ColorSpace << {spaces} >> /Font << /T {{type3}} >> /Pattern << /U {{tile}} /V {{coloured}} >> "
+    )
     resources += "/XObject << /M {stencil} /F {fills} /G {sets} >>"
     stencil = "q 20 0 0 20 0 0 cm {} Q"
     inline = "BI /W 8 /H 1 /IM true /BPC 1 /F /AHx ID 00> EI"
@@ -268,7 +288,10 @@ def neutrals():
         "red": (f"1 0 0 rg {FILL}", red),
         "red, indexed": (f"/X cs 3 sc {FILL}", red),
         "CMYK after RGB": (f"0 0 0 rg {TINT} k {FILL}", TINTED),
-        "four inks of a picture": ("q 20 0 0 20 0 0 cm BI /W 1 /H 1 /CS /CMYK /BPC 8 /F /AHx ID 33669919> EI Q", TINTED),
+        "four inks of a picture": (
+            "q 20 0 0 20 0 0 cm BI /W 1 /H 1 /CS /CMYK /BPC 8 /F /AHx ID 33669919> EI Q",
+            TINTED,
+        ),
         "black that overprints": (f"1 0 0 0 k {FILL} /O gs 0 0 0 rg {FILL}", BLACK),
         "CMYK black that overprints": (f"1 0 0 0 k {FILL} /O gs 0 0 0 1 k {FILL}", (100, 0, 0, 100)),
         "text filled and stroked": ("0 0 0 rg 0 0 0 RG BT 2 Tr /T 20 Tf (A) Tj ET", BLACK),
@@ -296,7 +319,11 @@ def optional():
         "shown": form(f".8 0 0 0 k {FILL}", "/OC {on}"),
         "member": form(f".8 0 0 0 k {FILL}", "/OC << /Type /OCMD /OCGs [{off} {on}] /P /AnyOff >>"),
         "picture": image(b"\0\xff\0\0", "/DeviceCMYK", side=1, keys="/OC {noprint}"),
-        "deep": form("/F Do /OC /o BDC 0 0 0 1 k 0 0 20 20 re f EMC", "", "/XObject << /F {hidden} >> /Properties << /o {off} >>"),
+        "deep": form(
+            "/F Do /OC /o BDC 0 0 0 1 k 0 0 20 20 re f EMC",
+            "",
+            "/XObject << /F {hidden} >> /Properties << /o {off} >>",
+        ),
         "type3": "<< /Type /Font /Subtype /Type3 /FontBBox [0 0 1 1] /FontMatrix [1 0 0 1 0 0] /FirstChar 65 /LastChar 65 "
         "/Widths [1] /Encoding << /Differences [65 /A] >> /CharProcs << /A {glyph} >> /Resources << >> >>",
         "glyph": ("", b"1 0 0 0 1 1 d1 0 0 1 1 re f"),
@@ -345,7 +372,9 @@ def optional():
     state = "/OFF [{off} {print}] /ON [{on}] /AS [<< /Event /Print /Category [/Print] /OCGs [{noprint} {print}] >> "
     state += "<< /Event /View /Category [/View] /OCGs [{unasked}] >>]"
     groups_ = "[{off} {on} {noprint} {print} {unasked}]"
-    return Sheet(cells, objects, resources, "/Annots [{note}]", f"/OCProperties << /OCGs {groups_} /D << {state} >> >>")
+    return Sheet(
+        cells, objects, resources, "/Annots [{note}]", f"/OCProperties << /OCGs {groups_} /D << {state} >> >>"
+    )
 
 
 def shadings():
@@ -399,11 +428,10 @@ def see_seams(results, folder):
         "orange to blue": (".9 .5 .1", ".1 .5 .9"), "green to magenta": ("0 .9 .1", ".9 .1 .8"),
         "black to white": ("0 0 0", "1 1 1"), "black to red": ("0 0 0", "1 0 0"),
     }  # fmt: skip
-    bands = "".join(
-        f"q 5 {80 - 20 * number} 90 15 re W n /S{number} sh Q\n" for number in range(len(ends))
-    )
+    bands = "".join(f"q 5 {80 - 20 * number} 90 15 re W n /S{number} sh Q\n" for number in range(len(ends)))
     names = " ".join(
-        f"/S{number} {axial('/DeviceRGB', *colours, coords='5 0 95 0')}" for number, colours in enumerate(ends.values())
+        f"/S{number} {axial('/DeviceRGB', *colours, coords='5 0 95 0')}"
+        for number, colours in enumerate(ends.values())
     )
     for name in ("A1", "A2"):
         Sheet(resources=f"/Shading << {names} >>", before=bands).write(pages.path(name))
@@ -415,13 +443,21 @@ def see_seams(results, folder):
             if made is None:
                 results.see(False, f"no page of gradients at {dpi}")
                 continue
-            row = made[:4, round((100 - 87 + 20 * number) * dpi / 25.4), round(6 * dpi / 25.4) : round(94 * dpi / 25.4)]
+            row = made[
+                :4,
+                round((100 - 87 + 20 * number) * dpi / 25.4),
+                round(6 * dpi / 25.4) : round(94 * dpi / 25.4),
+            ]
             step = abs(row.sum(axis=0)[1:] - row.sum(axis=0)[:-1]).max()
-            results.see(step <= 8, f"{name} at {dpi}: the sum of inks has a step of {step / 2.55:.1f} percent")
+            results.see(
+                step <= 8, f"{name} at {dpi}: the sum of inks has a step of {step / 2.55:.1f} percent"
+            )
             if name == "black to white":
                 results.see(not row[:3].any(), f"{name} at {dpi}: coloured ink")
                 wanted = inks(128, 128, 128)[3]
-                results.see(abs(row[3][row.shape[1] // 2] / 2.55 - wanted) <= 1.5, f"{name} at {dpi}: not {wanted}")
+                results.see(
+                    abs(row[3][row.shape[1] // 2] / 2.55 - wanted) <= 1.5, f"{name} at {dpi}: not {wanted}"
+                )
 
 
 def see_ink(results, folder):
@@ -443,4 +479,3 @@ def see_ink(results, folder):
     more = {"optional content": optional(), "shadings": shadings()}
     see_sheets(results, folder, "more-ink", more, RESOLUTIONS)
     see_seams(results, folder)
-

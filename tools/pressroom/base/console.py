@@ -11,8 +11,6 @@ import sys
 PACKAGES = {
     "gs": "ghostscript",
     "qpdf": "qpdf",
-    "pdfinfo": "poppler-utils",
-    "pdffonts": "poppler-utils",
     "pdftohtml": "poppler-utils",
     "pdftoppm": "poppler-utils",
     "prlimit": "util-linux",
@@ -44,6 +42,11 @@ def fault_of(error):
     return f"{name}: {error.strerror}" if name else str(error)
 
 
+def one_line(text):
+    """Returns the text of an event without what ends a line, moves a cursor or can't be printed."""
+    return "".join(letter if letter.isprintable() else "?" for letter in text)
+
+
 class NoBar:
     """Replaces a progress bar if tqdm isn't installed, and shows nothing."""
 
@@ -72,12 +75,14 @@ class Console:
         """Reports one event as text or, with all its fields, as JSON. `event` is a word such as fault."""
         self.counts[event] = self.counts.get(event, 0) + 1
         if self.as_json:
-            fields = {"event": event, "text": text, **self.fields, **fields}
-            print(json.dumps(fields, ensure_ascii=False), flush=True)
+            fields = {"event": event, "text": one_line(text), **self.fields, **fields}
+            # Bytes of file names that aren't UTF-8 are escaped as Python reads them.
+            line = json.dumps(fields, ensure_ascii=False).encode("utf-8", "backslashreplace")
+            print(line.decode(), flush=True)
         else:
             if self.drawn is not None:
                 self.drawn.clear()
-            print(text if event == "done" else f"{event}: {text}", flush=True)
+            print(one_line(text) if event == "done" else f"{event}: {one_line(text)}", flush=True)
 
     def bar(self, items, words, total=None):
         """Returns the items, with a progress bar if tqdm is installed and they take more than two seconds."""

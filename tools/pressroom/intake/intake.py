@@ -78,6 +78,8 @@ class Intake:
     def page(self, source):
         """Returns the outcome of a file that has no fault."""
         begun = time.monotonic()
+        if not source.name.isprintable():
+            raise Refused("file", "its name has control characters, or bytes that aren't UTF-8")
         if not pages.is_quiet(source.path, self.patience):
             raise Refused("written", f"still being written after {self.patience:g} s")
         with tempfile.TemporaryDirectory(prefix=".page-", dir=self.work.path) as folder:

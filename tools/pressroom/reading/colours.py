@@ -7,8 +7,8 @@ from dataclasses import dataclass, replace
 
 import pikepdf
 
-from pressroom.reading.objects import numbers
 from pressroom.reading.resources import Resources
+
 from pressroom.reading.spaces import (
     DEVICE, Blacks, Space, is_neutral, lab_range, lightness, luminosity, space_of,
 )  # fmt: skip
@@ -118,7 +118,13 @@ class Colours:
         )  # fmt: skip
 
     def patterned(
-        self, colour: tuple[float, ...], word: bytes, space: Space, resources: Resources, fill: bool, mask: bool
+        self,
+        colour: tuple[float, ...],
+        word: bytes,
+        space: Space,
+        resources: Resources,
+        fill: bool,
+        mask: bool,
     ) -> bytes | None:
         """Returns what paints an uncoloured pattern in a colour of RGB."""
         base = space.base

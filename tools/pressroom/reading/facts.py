@@ -67,7 +67,9 @@ def facts_of(page: pikepdf.Object) -> Facts:
         if is_array(value):
             stack += [(item, False, 0) for item in in_array(value, facts)]
         else:
-            stack += [(item, False, level) for item, level in in_dictionary(value, facts, value is page, named)]
+            stack += [
+                (item, False, level) for item, level in in_dictionary(value, facts, value is page, named)
+            ]
     facts.rgb_groups = any(is_rgb for mark, is_rgb in facts.groups if mark is None or mark not in facts.masks)
     return facts
 
@@ -109,7 +111,9 @@ def in_dictionary(
             value[key] = plain
             facts.changed = True
         elif is_array(item) or is_dictionary(item):
-            level = 0 if is_stream(item) else named - 1 if named > 1 else NAMED.get(key, 0) if not named else 0
+            level = (
+                0 if is_stream(item) else named - 1 if named > 1 else NAMED.get(key, 0) if not named else 0
+            )
             found.append((item, level))
         see_key(value, key, item, facts, is_page)
     return found

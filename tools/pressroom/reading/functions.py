@@ -7,6 +7,7 @@ from dataclasses import dataclass
 import numpy as np
 import pikepdf
 
+from pressroom.reading import objects
 from pressroom.reading.objects import Unreadable, get, is_array, is_dictionary, is_stream, number, numbers
 
 Values = np.ndarray
@@ -34,9 +35,8 @@ def malformed(what: str) -> Unreadable:
 
 
 def pairs(holder: object, key: bytes) -> Values:
-    """Returns the pairs of an array of numbers."""
-    found = np.array(numbers(get(holder, key)), dtype=float)
-    return found.reshape(-1, 2) if len(found) % 2 == 0 else np.empty((0, 2))
+    """Returns the pairs of an array of numbers as an array of rows."""
+    return np.array(objects.pairs(holder, key), dtype=float).reshape(-1, 2)
 
 
 def function_of(value: object, depth: int = 0) -> Function:
@@ -82,12 +82,12 @@ def stitched(value: object, domain: Values, depth: int) -> Callable[[Values], Va
         chosen = np.searchsorted(np.array(bounds), given[0], side="right")
         outputs = len(parts[0](given[:, :1]))
         made = np.zeros((outputs, given.shape[1]))
-        for number, part in enumerate(parts):
-            here = chosen == number
+        for place, part in enumerate(parts):
+            here = chosen == place
             if here.any():
-                width = edges[number + 1] - edges[number]
-                low, high = encode[number]
-                share = (given[:, here] - edges[number]) / width if width else given[:, here] * 0
+                width = edges[place + 1] - edges[place]
+                low, high = encode[place]
+                share = (given[:, here] - edges[place]) / width if width else given[:, here] * 0
                 made[:, here] = part(low + share * (high - low))
         return made
 
@@ -97,7 +97,12 @@ def stitched(value: object, domain: Values, depth: int) -> Callable[[Values], Va
 def sampled(value: object, domain: Values, depth: int) -> Callable[[Values], Values]:
     limits, bits = pairs(value, b"/Range"), number(get(value, b"/BitsPerSample"))
     sizes = [int(size) for size in numbers(get(value, b"/Size"))]
-    if not is_stream(value) or len(sizes) != len(domain) or not len(limits) or bits not in (1, 2, 4, 8, 12, 16, 24, 32):
+    if (
+        not is_stream(value)
+        or len(sizes) != len(domain)
+        or not len(limits)
+        or bits not in (1, 2, 4, 8, 12, 16, 24, 32)
+    ):
         raise malformed("of type 0 has no size, range or bits")
     count = math.prod(sizes) * len(limits)
     if min(sizes) < 1 or count > 1 << 24:
@@ -113,7 +118,9 @@ def sampled(value: object, domain: Values, depth: int) -> Callable[[Values], Val
     def call(given: Values) -> Values:
         width = domain[:, 1:] - domain[:, :1]
         share = (given - domain[:, :1]) / np.where(width == 0, 1, width)
-        places = np.clip(encode[:, :1] + share * (encode[:, 1:] - encode[:, :1]), 0, np.array(sizes)[:, None] - 1)
+        places = np.clip(
+            encode[:, :1] + share * (encode[:, 1:] - encode[:, :1]), 0, np.array(sizes)[:, None] - 1
+        )
         return interpolated(table, places, sizes)
 
     return call

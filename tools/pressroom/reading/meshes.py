@@ -9,7 +9,10 @@ from pressroom.reading.objects import Unreadable, copied, get, is_stream, number
 from pressroom.reading.spaces import NEUTRAL
 
 # Points and colours of a patch, by its flag, in the meshes of types 6 and 7.
-PATCHES = {6: {0: (12, 4), 1: (8, 2), 2: (8, 2), 3: (8, 2)}, 7: {0: (16, 4), 1: (12, 2), 2: (12, 2), 3: (12, 2)}}
+PATCHES = {
+    6: {0: (12, 4), 1: (8, 2), 2: (8, 2), 3: (8, 2)},
+    7: {0: (16, 4), 1: (12, 2), 2: (12, 2), 3: (12, 2)},
+}
 
 
 def lattice(
@@ -45,9 +48,16 @@ def grey_mesh(
 ) -> pikepdf.Object | None:
     """Returns a mesh in grey in place of one whose vertices have RGB; None if one has a colour, unless `always`."""
     kind, flag_bits = number(get(shading, b"/ShadingType")), int(number(get(shading, b"/BitsPerFlag")) or 0)
-    bits, point = (int(number(get(shading, key)) or 0) for key in (b"/BitsPerComponent", b"/BitsPerCoordinate"))
+    bits, point = (
+        int(number(get(shading, key)) or 0) for key in (b"/BitsPerComponent", b"/BitsPerCoordinate")
+    )
     decode = pairs(shading, b"/Decode")
-    if kind not in (4, 5, 6, 7) or not is_stream(shading) or len(decode) != 5 or not (0 < bits <= 16 and 0 < point <= 32):
+    if (
+        kind not in (4, 5, 6, 7)
+        or not is_stream(shading)
+        or len(decode) != 5
+        or not (0 < bits <= 16 and 0 < point <= 32)
+    ):
         raise Unreadable("damaged", "damaged: a mesh's keys are malformed")
     ones = np.unpackbits(np.frombuffer(shading.read_bytes(), np.uint8))
     flag_bits = 0 if kind == 5 else flag_bits

@@ -77,6 +77,12 @@ def numbers(value: object) -> Numbers:
     return tuple(item for item in found if item is not None) if None not in found else ()
 
 
+def pairs(holder: object, key: bytes) -> list[tuple[float, float]]:
+    """Returns the pairs of an array of numbers; nothing if their count is odd."""
+    found = numbers(get(holder, key))
+    return list(zip(found[::2], found[1::2])) if len(found) % 2 == 0 else []
+
+
 def identity(value: object) -> tuple[int, int] | None:
     """Returns the object number and generation of an indirect object, or None."""
     if isinstance(value, pikepdf.Object) and value.is_indirect:

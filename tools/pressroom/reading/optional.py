@@ -50,7 +50,11 @@ class Optional:
             return self.holds(expression, 0)
         members = get(group, b"/OCGs")
         groups = listed(members) if is_array(members) else [members]
-        states = [self.shows(item) for item in groups if is_dictionary(item) and name(get(item, b"/Type")) != b"/OCMD"]
+        states = [
+            self.shows(item)
+            for item in groups
+            if is_dictionary(item) and name(get(item, b"/Type")) != b"/OCMD"
+        ]
         if not states:
             return True
         policy = name(get(group, b"/P"))

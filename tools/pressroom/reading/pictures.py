@@ -6,14 +6,16 @@ alpha becomes a soft mask (ISO 32000-1, 7.4.9 and 11.6.5.3). RGB pictures in lum
 import io
 import re
 from dataclasses import dataclass
+from typing import TYPE_CHECKING
 
-import numpy as np
 import pikepdf
 from PIL import Image
 
-from pressroom.reading.functions import Values, pairs
-from pressroom.reading.objects import Unreadable, copied, get, is_array, name, number
+from pressroom.reading.objects import Unreadable, copied, get, is_array, name, number, pairs
 from pressroom.reading.spaces import LUMINOSITY, Space
+
+if TYPE_CHECKING:
+    import numpy as np
 
 JPEG, JPEG_2000 = b"/DCTDecode", b"/JPXDecode"
 # A marker that ends a scan: not a byte of the scan, nor a restart.
@@ -36,7 +38,9 @@ def coded(pdf: pikepdf.Pdf, picture: pikepdf.Object) -> bytes:
     if not first:
         return bytes(data)
     inner = pikepdf.Stream(pdf, data)
-    inner.stream_dict = pikepdf.Dictionary(Filter=pikepdf.Array([pikepdf.Name(word.decode()) for word in first]))
+    inner.stream_dict = pikepdf.Dictionary(
+        Filter=pikepdf.Array([pikepdf.Name(word.decode()) for word in first])
+    )
     return bytes(inner.read_bytes())
 
 
@@ -123,6 +127,8 @@ def untagged_2000(pdf: pikepdf.Pdf, picture: pikepdf.Object, where: str) -> pike
 
 def with_alpha(pdf: pikepdf.Pdf, picture: pikepdf.Object, where: str, multiplied: bool) -> pikepdf.Object:
     """Returns a picture with a soft mask in place of one with its alpha inside."""
+    import numpy as np
+
     image = opened(pdf, picture, where)
     if image.mode not in ("LA", "RGBA") or get(picture, b"/Decode") is not None:
         raise Unreadable("unsupported", f"{where} is JPEG 2000 whose alpha can't be read ({image.mode})")
@@ -147,8 +153,10 @@ def opened(pdf: pikepdf.Pdf, picture: pikepdf.Object, where: str) -> Image.Image
         raise Unreadable("damaged", f"damaged: {where} can't be decoded: {error}") from None
 
 
-def plain(pdf: pikepdf.Pdf, picture: pikepdf.Object, samples: Values) -> pikepdf.Object:
+def plain(pdf: pikepdf.Pdf, picture: pikepdf.Object, samples: "np.ndarray") -> pikepdf.Object:
     """Returns a picture of these samples, grey or RGB, with the other keys of the picture."""
+    import numpy as np
+
     stream = pikepdf.Stream(pdf, np.ascontiguousarray(samples, np.uint8).tobytes())
     stream.stream_dict = pikepdf.Dictionary(
         Type=pikepdf.Name("/XObject"), Subtype=pikepdf.Name("/Image"), Width=samples.shape[1], Height=samples.shape[0],
@@ -160,11 +168,15 @@ def plain(pdf: pikepdf.Pdf, picture: pikepdf.Object, samples: Values) -> pikepdf
     return pdf.make_indirect(stream)
 
 
-def samples_of(pdf: pikepdf.Pdf, picture: pikepdf.Object, where: str) -> Values:
+def samples_of(pdf: pikepdf.Pdf, picture: pikepdf.Object, where: str) -> "np.ndarray":
     """Returns the components of an RGB picture, rows by columns by three, from 0 to 1."""
+    import numpy as np
+
     if filters(picture)[-1:] in ([JPEG], [JPEG_2000]):
         return np.asarray(opened(pdf, picture, where).convert("RGB")) / np.float32(255)
-    width, height, bits = (int(number(get(picture, key)) or 0) for key in (b"/Width", b"/Height", b"/BitsPerComponent"))
+    width, height, bits = (
+        int(number(get(picture, key)) or 0) for key in (b"/Width", b"/Height", b"/BitsPerComponent")
+    )
     if bits not in (1, 2, 4, 8, 16) or width < 1 or height < 1:
         raise Unreadable("damaged", f"damaged: {where} has no size")
     row = (width * 3 * bits + 7) // 8
@@ -180,12 +192,16 @@ def samples_of(pdf: pikepdf.Pdf, picture: pikepdf.Object, where: str) -> Values:
 
 def grey(pdf: pikepdf.Pdf, picture: pikepdf.Object, space: Space, where: str) -> pikepdf.Object:
     """Returns a picture in grey, by its luminosity, in place of one in RGB or in a table of RGB."""
+    import numpy as np
+
     if is_array(get(picture, b"/Mask")):
         raise Unreadable("unsupported", f"{where} is RGB with a colour key, within a luminosity mask")
     if space.kind == "indexed":
         made = pikepdf.Stream(pdf, picture.read_raw_bytes())
         made.stream_dict = copied(picture.stream_dict)
-        table = np.frombuffer(space.table[: len(space.table) // 3 * 3], np.uint8).reshape(-1, 3) @ np.array(LUMINOSITY)
+        table = np.frombuffer(space.table[: len(space.table) // 3 * 3], np.uint8).reshape(-1, 3) @ np.array(
+            LUMINOSITY
+        )
         lookup = (table + 0.5).astype(np.uint8).tobytes()
         made[b"/ColorSpace"] = pikepdf.Array(
             [pikepdf.Name("/Indexed"), pikepdf.Name("/DeviceGray"), len(lookup) - 1, pikepdf.String(lookup)]
@@ -194,7 +210,8 @@ def grey(pdf: pikepdf.Pdf, picture: pikepdf.Object, space: Space, where: str) ->
     decode = pairs(picture, b"/Decode")
     colours = samples_of(pdf, picture, where)
     if len(decode) == 3:
-        colours = decode[:, 0] + colours * (decode[:, 1] - decode[:, 0])
+        low, high = np.array(decode).T
+        colours = low + colours * (high - low)
     light = np.clip(colours @ np.array(LUMINOSITY), 0, 1)
     made = plain(pdf, picture, (light * 255 + 0.5).astype(np.uint8))
     for key in (b"/SMask", b"/Mask"):

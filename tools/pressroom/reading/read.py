@@ -14,17 +14,14 @@ os.environ["OPENBLAS_NUM_THREADS"] = "1"
 sys.path.insert(0, os.path.dirname(os.path.dirname(os.path.dirname(os.path.abspath(__file__)))))
 import pikepdf
 
-from pressroom.reading.boxes import page_boxes, rotation, unit
+from pressroom.reading.boxes import inherited, page_boxes, rotation, unit
 from pressroom.reading.colours import State
-from pressroom.reading.facts import Facts, facts_of
-from pressroom.reading.objects import (
-    Unreadable, copied, get, identity, is_array, is_dictionary, is_stream, items, name,
-)  # fmt: skip
+from pressroom.reading.facts import facts_of
+from pressroom.reading.objects import Unreadable, copied, get, is_array, is_dictionary, is_stream, items, name
 from pressroom.reading.optional import Optional
 from pressroom.reading.resources import Resources
 from pressroom.reading.spaces import Blacks
 from pressroom.reading.walk import Walk, readable
-from pressroom.reading.boxes import inherited
 
 
 class Read(TypedDict):
@@ -62,7 +59,7 @@ class Page:
         self.edit_group()
         if self.optional.exists:
             del self.pdf.Root["/OCProperties"]
-        walk, facts = self.walk, self.facts
+        facts, (rgb, lab) = self.facts, self.walk.colourful()
         return {
             "trim": trim,
             "crop": crop,
@@ -70,11 +67,11 @@ class Page:
             "turn": rotation(self.page),
             "unit": unit(self.page),
             "count": len(self.pdf.pages),
-            "rgb": walk.rgb or walk.colours.rgb or walk.shadings.rgb,
-            "lab": walk.colours.lab or walk.shadings.lab,
+            "rgb": rgb,
+            "lab": lab,
             "blending": facts.rgb_groups,
             "strips": not facts.blends and not facts.overprints and len(facts.spots) < 2,
-            "fonts": sorted(walk.fonts),
+            "fonts": sorted(self.walk.fonts),
             "edited": self.changed,
         }
 

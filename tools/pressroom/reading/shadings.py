@@ -10,7 +10,16 @@ import pikepdf
 
 from pressroom.reading.functions import Function, Values, function_of, of_samples, pairs
 from pressroom.reading.meshes import grey_mesh, lattice
-from pressroom.reading.objects import Unreadable, copied, get, is_array, is_dictionary, is_stream, number, numbers
+from pressroom.reading.objects import (
+    Unreadable,
+    copied,
+    get,
+    is_array,
+    is_dictionary,
+    is_stream,
+    number,
+    numbers,
+)
 from pressroom.reading.spaces import LUMINOSITY, NEUTRAL, Blacks, space_of
 
 # Samples of a function of one input, and cells of a mesh along each side: at first, and if these aren't enough.
@@ -45,7 +54,12 @@ class Shadings:
         domain = numbers(get(shading, b"/Domain")) or (0.0, 1.0, 0.0, 1.0)
         matrix = numbers(get(shading, b"/Matrix")) or (1.0, 0.0, 0.0, 1.0, 0.0, 0.0)
         function = function_of(get(shading, b"/Function"))
-        if len(domain) != 4 or len(matrix) != 6 or len(function.domain) != 2 or get(shading, b"/BBox") is not None:
+        if (
+            len(domain) != 4
+            or len(matrix) != 6
+            or len(function.domain) != 2
+            or get(shading, b"/BBox") is not None
+        ):
             raise Unreadable("damaged", "damaged: a shading by a function has a malformed domain or matrix")
         kept = {b"/ColorSpace": get(shading, b"/ColorSpace"), b"/Background": get(shading, b"/Background")}
         if matrix == (1.0, 0.0, 0.0, 1.0, 0.0, 0.0):
@@ -53,7 +67,9 @@ class Shadings:
                 if is_constant(function, domain, 1 - axis):
                     return filled(self.axial(function, domain, axis), kept)
         cells = CELLS if is_close(function, domain, CELLS) else MORE_CELLS
-        return filled(lattice(self.pdf, grid(function, domain, cells), domain, matrix, limits_of(shading)), kept)
+        return filled(
+            lattice(self.pdf, grid(function, domain, cells), domain, matrix, limits_of(shading)), kept
+        )
 
     def axial(self, function: Function, domain: tuple[float, ...], axis: int) -> pikepdf.Object:
         """Returns an axial shading of a function that depends on x alone (axis 0), or on y alone."""

@@ -63,12 +63,20 @@ def space_of(value: object, depth: int = 0) -> Space:
     word = name(value[0])  # type: ignore[index]
     second = value[1] if len(value) > 1 else None  # type: ignore[index, arg-type]
     if word in (b"/CalRGB", b"/CalGray", b"/CalCMYK", b"/Lab"):
-        return Space({b"/CalRGB": "rgb", b"/CalGray": "gray", b"/CalCMYK": "cmyk", b"/Lab": "lab"}[word], value)
+        return Space(
+            {b"/CalRGB": "rgb", b"/CalGray": "gray", b"/CalCMYK": "cmyk", b"/Lab": "lab"}[word], value
+        )
     if word == b"/ICCBased":
         return Space(profile_kind(second), value)
     if word == b"/Indexed":
         table = value[3] if len(value) > 3 else b""  # type: ignore[index, arg-type]
-        data = table.read_bytes() if is_stream(table) else bytes(table) if isinstance(table, pikepdf.String) else b""
+        data = (
+            table.read_bytes()
+            if is_stream(table)
+            else bytes(table)
+            if isinstance(table, pikepdf.String)
+            else b""
+        )
         return Space("indexed", value, space_of(second, depth + 1), data)
     if word == b"/Pattern":
         return Space("pattern", value, space_of(second, depth + 1) if second is not None else None)

@@ -62,7 +62,9 @@ def unescaped(word: bytes) -> bytes:
 
 def escaped(word: bytes) -> bytes:
     """Returns a name, with its slash, as it is written in a content stream."""
-    return b"/" + re.sub(rb"[^!\"$&'*+,\-.0-9:;=?@A-Z\\^_`a-z|~]", lambda found: b"#%02x" % found[0][0], word[1:])
+    return b"/" + re.sub(
+        rb"[^!\"$&'*+,\-.0-9:;=?@A-Z\\^_`a-z|~]", lambda found: b"#%02x" % found[0][0], word[1:]
+    )
 
 
 def text_end(data: bytes, start: int) -> int:

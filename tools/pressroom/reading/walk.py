@@ -2,21 +2,26 @@
 
 Each stream is rewritten as little as possible: a stream without a change keeps its bytes. ISO 32000-1, 7.8, 8 and 9.
 """
+import functools
 from dataclasses import dataclass, replace
+from typing import TYPE_CHECKING
 
 import pikepdf
 
 from pressroom.reading.colours import DIRECT, Colours, State
 from pressroom.reading.fonts import is_embedded, shown_name
+
 from pressroom.reading.objects import (
-    Unreadable, copied, get, identity, is_array, is_dictionary, is_stream, items, name, number, shown,
+    Unreadable, copied, get, identity, is_array, is_dictionary, is_stream, items, name, shown,
 )  # fmt: skip
 from pressroom.reading.optional import Optional
 from pressroom.reading.pictures import JPEG, JPEG_2000, filters, grey, is_cut, see_jpeg, untagged_2000
 from pressroom.reading.resources import Resources
-from pressroom.reading.shadings import Shadings
 from pressroom.reading.spaces import DEVICE, INLINE, Blacks, Space, space_of
 from pressroom.reading.tokens import Instruction, Scrambled, Watch, instructions
+
+if TYPE_CHECKING:
+    from pressroom.reading.shadings import Shadings
 
 PAINTING = {b"f", b"F", b"f*", b"S", b"s", b"B", b"B*", b"b", b"b*"}
 TEXT = {b"Tj", b"TJ", b"'", b'"'}
@@ -42,10 +47,22 @@ class Walk:
 
     def __init__(self, pdf: pikepdf.Pdf, optional: Optional, blacks: Blacks, prune: bool) -> None:
         self.pdf, self.optional, self.prune = pdf, optional, prune
-        self.colours, self.shadings = Colours(blacks), Shadings(pdf, blacks)
+        self.colours, self.blacks = Colours(blacks), blacks
         self.rgb, self.luminous, self.fonts = False, False, set[str]()
         self.stack: list[tuple[int, int] | None] = []
         self.made: dict[object, pikepdf.Object] = {}
+
+    @functools.cached_property
+    def shadings(self) -> "Shadings":
+        """Returns the page's shadings. numpy is loaded for a page that has one."""
+        from pressroom.reading.shadings import Shadings
+
+        return Shadings(self.pdf, self.blacks)
+
+    def colourful(self) -> tuple[bool, bool]:
+        """Returns whether the page shows RGB, and whether it shows Lab."""
+        parts = [self.colours, *([self.shadings] if "shadings" in self.__dict__ else [])]
+        return self.rgb or any(part.rgb for part in parts), any(part.lab for part in parts)
 
     def stream(
         self, data: bytes, resources: Resources, state: State, mask: bool
@@ -61,7 +78,13 @@ class Walk:
         return (spliced(data, edits) if edits else None), resources.made(self.prune)
 
     def content(
-        self, holder: pikepdf.Object, parent: Resources | None, where: str, state: State, mask: bool, root: bool = False
+        self,
+        holder: pikepdf.Object,
+        parent: Resources | None,
+        where: str,
+        state: State,
+        mask: bool,
+        root: bool = False,
     ) -> pikepdf.Object:
         """Follows a form, a pattern or a glyph. Returns the stream that takes its place. `root` is whether it's the
         group of a mask, which keeps its colour space.
@@ -92,7 +115,9 @@ class Walk:
         self.made[key] = made
         return made
 
-    def state_of(self, value: pikepdf.Object, resources: Resources, state: State, mask: bool) -> pikepdf.Object:
+    def state_of(
+        self, value: pikepdf.Object, resources: Resources, state: State, mask: bool
+    ) -> pikepdf.Object:
         """Follows the soft mask of a graphics state. Returns the graphics state that takes its place."""
         soft = get(value, b"/SMask")
         group = get(soft, b"/G")
@@ -241,7 +266,9 @@ class Reader:
         if operator in (b"scn", b"SCN", b"sc", b"SC") and operands and isinstance(operands[-1], bytes):
             word = operands[-1]
             old = self.resources.needed(b"/Pattern", word, "pattern")
-            self.resources.change(b"/Pattern", word, old, self.walk.pattern(old, self.resources, word, self.mask))
+            self.resources.change(
+                b"/Pattern", word, old, self.walk.pattern(old, self.resources, word, self.mask)
+            )
         self.state, text = self.walk.colours.set(instruction, self.state, self.resources, self.mask)
         return text
 
@@ -292,7 +319,9 @@ class Reader:
             if operands and isinstance(operands[-1], float):
                 self.state = replace(self.state, mode=int(operands[-1]))
             return
-        word = operands[0] if operands and isinstance(operands[0], bytes) else b""
+        place = -2 if instruction.operator == b"Tf" else -1
+        word = operands[place] if len(operands) >= -place else b""
+        word = word if isinstance(word, bytes) else b""
         if instruction.operator == b"Tf":
             self.state = replace(self.state, named=word, font=self.resources.find(b"/Font", word))
             return
@@ -321,7 +350,9 @@ class Reader:
             del old[b"/OC"]
         kind = name(get(old, b"/Subtype"))
         if not is_stream(old):
-            raise Unreadable("damaged", f"damaged: object {shown(word)} of {self.resources.where} isn't a stream")
+            raise Unreadable(
+                "damaged", f"damaged: object {shown(word)} of {self.resources.where} isn't a stream"
+            )
         if kind == b"/Form":
             new = self.walk.content(old, self.resources, f"the form {shown(word)}", self.state, self.mask)
         elif kind == b"/Image":
@@ -338,14 +369,18 @@ class Reader:
             return None
         codes = keys.get(b"/F", keys.get(b"/Filter", b""))
         if codes.strip(b"[] \r\n\t") in (b"/DCT", b"/DCTDecode") and is_cut(keys[b"data"]):
-            raise Unreadable("damaged", f"damaged: an inline picture of {self.resources.where} is JPEG without its end")
+            raise Unreadable(
+                "damaged", f"damaged: an inline picture of {self.resources.where} is JPEG without its end"
+            )
         if b"true" in (keys.get(b"/IM"), keys.get(b"/ImageMask")):
             return None
         word = keys.get(b"/CS", keys.get(b"/ColorSpace", b""))
         space = self.inline_space(word)
         self.walk.colours.lab |= space.has("lab")
         if space.has("rgb") and self.mask:
-            raise Unreadable("unsupported", f"an inline picture in RGB within a luminosity mask ({self.resources.where})")
+            raise Unreadable(
+                "unsupported", f"an inline picture in RGB within a luminosity mask ({self.resources.where})"
+            )
         self.walk.rgb |= space.has("rgb")
         return None
 
