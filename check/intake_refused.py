@@ -3,8 +3,8 @@ import os
 import re
 import zlib
 
-from intake_cells import SIDE, Sheet, coded, form, house, image, mask, middle, planes
-from intake_ink import BARE, BLACK, CYAN, FILL, GREY, HALF, image_of, inks
+from intake_cells import Sheet, coded, form, house, image, mask, middle, planes
+from intake_ink import BLACK, CYAN, FILL, HALF, image_of, inks
 from intake_pages import Pages, fields, intake
 
 DPI = 127

@@ -1,4 +1,4 @@
-"""Tells which fonts are embedded: ISO 32000-1, 9.9."""
+"""Says which fonts are embedded: ISO 32000-1, 9.9."""
 import pikepdf
 
 from pressroom.reading.objects import get, is_array, is_dictionary, name, shown
