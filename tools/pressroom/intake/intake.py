@@ -121,7 +121,7 @@ class Intake:
             if heavy:
                 words = f"ink above {press.limit:g} percent ({press.name}) on {heavy[0] / 100:.0f}"
                 notes.append(("limit", f"{words} square centimetres", heavy[1]))
-        for place in thin_white(self.limits, name, inspected, seen, folder):
+        for place in thin_white(self.limits, name, inspected, seen, folder) if inspected.white else ():
             notes.append(("white", "thin white text over four inks", place))
         return Made(made.inks, made.layers, tuple(notes))
 

@@ -2,10 +2,12 @@
 
 `inspect` returns the PDF to render and an Inspected, or raises Refused.
 """
+import functools
 import json
 import os
 import re
 import sys
+import tempfile
 from dataclasses import dataclass
 from typing import TYPE_CHECKING, cast
 
@@ -32,8 +34,8 @@ class Refused(Exception):
 @dataclass(frozen=True)
 class Inspected:
     """A page that can be rendered: its trim and crop boxes in points of the unrotated page, its rotation in
-    degrees, which of the boxes is rendered, whether it may have RGB, whether it has Lab, and whether it may be
-    painted in strips.
+    degrees, which of the boxes is rendered, whether it may have RGB, whether it has Lab, whether it may have white
+    text, and whether it may be painted in strips.
     """
 
     trim: tuple[float, ...]
@@ -43,6 +45,7 @@ class Inspected:
     notes: tuple[tuple[str, str], ...]
     rgb: bool
     lab: bool
+    white: bool
     strips: bool
 
     def millimetres(self) -> tuple[float, float]:
@@ -95,9 +98,17 @@ def see_damage(limits: Limits, name: str, folder: str) -> None:
         raise Refused("damaged", f"damaged or incomplete: {line}")
 
 
+@functools.cache
+def compiled() -> tempfile.TemporaryDirectory[str]:
+    """Returns a folder for the reader's compiled modules. To compile them takes as long as reading a page of text, and
+    the folder of pressroom may be read-only.
+    """
+    return tempfile.TemporaryDirectory(prefix="pressroom-")
+
+
 def read(limits: Limits, name: str, folder: str) -> "Read":
     """Returns what pressroom.reading reads of the PDF's first page. It may write `edited.pdf`."""
-    status, out, note = limits.run([sys.executable, "-B", READER, name], folder, "the reader of PDFs")
+    status, out, note = limits.run([sys.executable, READER, name, compiled().name], folder, "the reader of PDFs")
     path = os.path.join(folder, "read.json")
     if status or not os.path.isfile(path):
         raise Refused("damaged", f"damaged: its objects can't be read: {last_line(note)}")
@@ -134,5 +145,5 @@ def inspect(limits: Limits, name: str, folder: str) -> tuple[str, Inspected]:
         notes.append(("blending", "transparency in RGB is blended in CMYK"))
     trim, crop = (tuple(side * page["unit"] for side in box) for box in (page["trim"], page["crop"]))
     box = "Trim" if page["trimmed"] else "Crop"
-    shown = page["rgb"], page["lab"], page["strips"]
+    shown = page["rgb"], page["lab"], page["white"], page["strips"]
     return "edited.pdf" if page["edited"] else name, Inspected(trim, crop, page["turn"], box, tuple(notes), *shown)

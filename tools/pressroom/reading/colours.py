@@ -31,10 +31,12 @@ class State:
 
 
 class Colours:
-    """Rewrites the colours of one page. `rgb` and `lab` are whether a colour is set that isn't neutral."""
+    """Rewrites the colours of one page. `rgb` and `lab` are whether a colour is set that isn't neutral, and `white`
+    whether one may be that is white.
+    """
 
     def __init__(self, blacks: Blacks) -> None:
-        self.blacks, self.rgb, self.lab = blacks, False, False
+        self.blacks, self.rgb, self.lab, self.white = blacks, False, False, False
 
     def set(
         self, instruction: Instruction, state: State, resources: Resources, mask: bool
@@ -44,12 +46,14 @@ class Colours:
         fill = operator.islower()
         if operator in DIRECT:
             state, colour = chosen(state, Space(DIRECT[operator]), fill), values(operands)
+            bare = [1 - part for part in colour] if operator in b"kK" else colour
+            self.white |= min(bare, default=1) > 0.99
             is_rgb = operator in (b"rg", b"RG") and len(colour) == 3
             return state, self.neutral(colour, fill, mask) if is_rgb else None
         if operator in (b"cs", b"CS"):
             space = self.named(operands, resources)
             return chosen(state, space, fill), self.initial(space, fill, mask)
-        space = state.fill if fill else state.stroke
+        space, self.white = (state.fill if fill else state.stroke), True
         return state, self.colour(operands, space, resources, fill, mask)
 
     def named(self, operands: tuple[Operand, ...], resources: Resources) -> Space:

@@ -1,8 +1,8 @@
 """Reads the first page of a PDF, and writes an edited copy that Ghostscript paints right.
 
-intake runs this file as a process of its own, under limits, in the page's folder. Its one argument is the name of the
-PDF. It writes `edited.pdf`, if something has to change, and `read.json`: a fault as its kind and text, or what the
-page is and shows. The file `neutral.bin` has the black ink of 65536 neutral colours.
+intake runs this file as a process of its own, under limits, in the page's folder. Its arguments are the name of the PDF
+and a folder for compiled modules. It writes `edited.pdf`, if something has to change, and `read.json`: a fault as its
+kind and text, or what the page is and shows. The file `neutral.bin` has the black ink of 65536 neutral colours.
 """
 import json
 import os
@@ -12,6 +12,10 @@ from typing import TypedDict
 # By default OpenBLAS starts a thread for each processor, and their memory counts against the limit.
 os.environ["OPENBLAS_NUM_THREADS"] = "1"
 sys.path.insert(0, os.path.dirname(os.path.dirname(os.path.dirname(os.path.abspath(__file__)))))
+sys.pycache_prefix = sys.argv[2] if len(sys.argv) > 2 else None
+from pressroom.reading.kit import load
+
+load()
 import pikepdf
 
 from pressroom.reading.boxes import inherited, page_boxes, rotation, unit
@@ -22,6 +26,8 @@ from pressroom.reading.optional import Optional
 from pressroom.reading.resources import Resources
 from pressroom.reading.spaces import Blacks
 from pressroom.reading.walk import Walk, readable
+
+sys.pycache_prefix = None
 
 
 class Read(TypedDict):
@@ -35,6 +41,7 @@ class Read(TypedDict):
     count: int
     rgb: bool
     lab: bool
+    white: bool
     blending: bool
     strips: bool
     fonts: list[str]
@@ -69,6 +76,7 @@ class Page:
             "count": len(self.pdf.pages),
             "rgb": rgb,
             "lab": lab,
+            "white": self.walk.colours.white,
             "blending": facts.rgb_groups,
             "strips": not facts.blends and not facts.overprints and len(facts.spots) < 2,
             "fonts": sorted(self.walk.fonts),
