@@ -103,6 +103,11 @@ def mask_sheet(group, keys):
     return Sheet(cells, objects, states, keys, notes=notes)
 
 
+def flat_jpeg():
+    """Returns a JPEG file of 8 by 8 pixels in RGB that are half grey."""
+    return coded("JPEG", b"\x80" * 192, "RGB", 8)
+
+
 def more_masks():
     """Returns a page of masks of other kinds, most of which must not change."""
     states = "/Alpha << /SMask << /S /Alpha /G {alpha} >> >> /Lum << /SMask << /S /Luminosity /G {lum} >> >> "
@@ -111,6 +116,8 @@ def more_masks():
     )
     states += "/Wide << /SMask << /S /Luminosity /G {pictures} >> >> /Bits << /SMask << /S /Luminosity /G {bits} >> >> "
     states += "/Table << /SMask << /S /Luminosity /G {table} >> >> /Turned << /SMask << /S /Luminosity /G {turned} >> >>"
+    for name in ("Line", "Lines", "Jpeg"):
+        states += f" /{name} {mask(name.lower())}"
     group = "/Group << /S /Transparency /CS /DeviceRGB >>"
     objects = {
         "alpha": form("/H gs 1 0 0 rg 0 0 20 20 re f", group, "/ExtGState << /H << /ca .5 >> >>"),
@@ -122,6 +129,14 @@ def more_masks():
         "bits": form("q 20 0 0 20 0 0 cm /I Do Q", group, "/XObject << /I {four} >>"),
         "table": form("q 20 0 0 20 0 0 cm /I Do Q", group, "/XObject << /I {indexed} >>"),
         "turned": form("q 20 0 0 20 0 0 cm /I Do Q", group, "/XObject << /I {inverse} >>"),
+        "line": form(f"q 20 0 0 20 0 0 cm BI /W 2 /H 1 /CS /RGB /BPC 8 /F /AHx ID {'80' * 6}> EI Q", group),
+        "lines": form(
+            "q 20 0 0 20 0 0 cm BI /W 1 /H 1 /CS [/I /RGB 1 <000000808080>] /BPC 8 /F /AHx ID 01> EI Q", group
+        ),
+        "jpeg": form(
+            f"q 20 0 0 20 0 0 cm BI /W 8 /H 8 /CS /RGB /BPC 8 /F [/AHx /DCT] ID {flat_jpeg().hex()}> EI Q",
+            group,
+        ),
         "sixteen": image(b"\x80\0" * 48, "/DeviceRGB", bits=16),
         "four": image(b"\x88" * 24, "/DeviceRGB", bits=4),
         "indexed": image(b"\1" * 16, "[/Indexed /DeviceRGB 1 <000000808080>]"),
@@ -144,6 +159,9 @@ def more_masks():
         "decode": (f"/Turned {paint}", (64, 0, 0, 0)),
         "none": (f"/Lum gs /None {paint}", CYAN),
         "opacity": (f"/Half {paint}", HALF),
+        "inline": (f"/Line {paint}", HALF),
+        "inline, indexed": (f"/Lines {paint}", HALF),
+        "inline JPEG": (f"/Jpeg {paint}", HALF),
         "a picture's mask": ("20 0 0 20 0 0 cm /Soft Do", (0, 50, 0, 0)),
         "within a form": ("/Both Do", HALF),
     }

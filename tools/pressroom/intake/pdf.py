@@ -35,7 +35,7 @@ class Refused(Exception):
 class Inspected:
     """A page that can be rendered: its trim and crop boxes in points of the unrotated page, its rotation in
     degrees, which of the boxes is rendered, whether it may have RGB, whether it has Lab, whether it may have white
-    text, and whether it may be painted in strips.
+    text, whether it may be painted in strips, and its unit in points.
     """
 
     trim: tuple[float, ...]
@@ -47,6 +47,7 @@ class Inspected:
     lab: bool
     white: bool
     strips: bool
+    unit: float
 
     def millimetres(self) -> tuple[float, float]:
         """Returns the width and height of the trimmed page, rotated as it is shown."""
@@ -145,5 +146,5 @@ def inspect(limits: Limits, name: str, folder: str) -> tuple[str, Inspected]:
         notes.append(("blending", "transparency in RGB is blended in CMYK"))
     trim, crop = (tuple(side * page["unit"] for side in box) for box in (page["trim"], page["crop"]))
     box = "Trim" if page["trimmed"] else "Crop"
-    shown = page["rgb"], page["lab"], page["white"], page["strips"]
+    shown = page["rgb"], page["lab"], page["white"], page["strips"], page["unit"]
     return "edited.pdf" if page["edited"] else name, Inspected(trim, crop, page["turn"], box, tuple(notes), *shown)

@@ -59,16 +59,19 @@ def thin_white(limits, name, inspected, seen, folder):
     words = ["pdftohtml", "-xml", "-i", "-stdout", "-zoom", "1", "-f", "1", "-l", "1", "-nomerge"]
     status, out, _ = limits.run([*words, "-noroundcoord", name, "text"], folder)
     text = out.decode("utf-8", "replace")
+    # poppler doesn't apply the page's unit.
+    unit, (left, top) = inspected.unit, corner(inspected)
     white = {
-        number for number, size, colour in FONT.findall(text) if colour == "ffffff" and 0 < int(size) < THIN
+        number
+        for number, size, colour in FONT.findall(text)
+        if colour == "ffffff" and 0 < int(size) * unit < THIN
     }
-    left, top = corner(inspected)
     places = []
     for y, x, width, height, font in TEXT.findall(text) if status == 0 else ():
         if font not in white:
             continue
-        box = [float(x) - left, float(y) - top, float(width), float(height)]
-        box = [value / MILLIMETRE for value in box]
+        x, y, width, height = (float(value) * unit for value in (x, y, width, height))
+        box = [value / MILLIMETRE for value in (x - left, y - top, width, height)]
         if lies_on_four(box, seen):
             places.append(tuple(round(value, 1) for value in box))
     return places

@@ -1,6 +1,7 @@
 """Loads pikepdf without its parts for XMP metadata and for its own version, which take a third of the time that a page
 of text takes to read. Other modules import pikepdf after that.
 """
+import importlib
 import sys
 import types
 
@@ -24,9 +25,9 @@ def load() -> None:
     }
     sys.modules.update(parts)
     try:
-        import pikepdf
+        importlib.import_module("pikepdf")
     except (ImportError, AttributeError):
         for name in [*parts, *(name for name in sys.modules if name.partition(".")[0] == "pikepdf")]:
             sys.modules.pop(name, None)
-        import pikepdf  # noqa: F401
+        importlib.import_module("pikepdf")
     sys.pycache_prefix = kept

@@ -15,10 +15,12 @@ class Optional:
 
     def __init__(self, root: pikepdf.Object) -> None:
         self.states: dict[tuple[int, int] | None, bool] = {}
+        self.intents: set[bytes] = set()
         properties = get(root, b"/OCProperties")
         self.exists = is_dictionary(properties)
         default = get(properties, b"/D")
         self.base = name(get(default, b"/BaseState")) != b"/OFF"
+        self.intents = intents(default)
         for key, state in ((b"/ON", True), (b"/OFF", False)):
             for group in listed(get(default, key)):
                 self.states[identity(group)] = state
@@ -44,7 +46,8 @@ class Optional:
         if not is_dictionary(group):
             return True
         if name(get(group, b"/Type")) != b"/OCMD":
-            return self.states.get(identity(group), self.base)
+            counts = b"/All" in self.intents or self.intents & intents(group)
+            return self.states.get(identity(group), self.base) if counts else True
         expression = get(group, b"/VE")
         if is_array(expression):
             return self.holds(expression, 0)
@@ -76,6 +79,12 @@ class Optional:
         if kind == b"/Not":
             return not values[0] if values else True
         return all(values) if kind == b"/And" else any(values) if values else True
+
+
+def intents(holder: object) -> set[bytes]:
+    """Returns the intents of a group or a configuration. Groups of other intents than the configuration's show."""
+    value = get(holder, b"/Intent")
+    return {name(item) for item in listed(value)} if is_array(value) else {name(value) or b"/View"}
 
 
 def listed(value: object) -> list[pikepdf.Object]:

@@ -117,7 +117,7 @@ def untagged_2000(pdf: pikepdf.Pdf, picture: pikepdf.Object, where: str) -> pike
     if get(picture, b"/ColorSpace") is not None or facts.alpha:
         return picture
     space = {1: "/DeviceGray", 4: "/DeviceCMYK"}.get(facts.components)
-    if space is None:
+    if space is None or facts.space not in (0, GREY, CMYK):
         return picture
     made = pikepdf.Stream(pdf, picture.read_raw_bytes())
     made.stream_dict = copied(picture.stream_dict)

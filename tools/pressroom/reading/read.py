@@ -21,13 +21,26 @@ import pikepdf
 from pressroom.reading.boxes import inherited, page_boxes, rotation, unit
 from pressroom.reading.colours import State
 from pressroom.reading.facts import facts_of
-from pressroom.reading.objects import Unreadable, copied, get, is_array, is_dictionary, is_stream, items, name
+from pressroom.reading.objects import (
+    Unreadable,
+    copied,
+    get,
+    is_array,
+    is_dictionary,
+    is_stream,
+    items,
+    name,
+    number,
+)
 from pressroom.reading.optional import Optional
 from pressroom.reading.resources import Resources
 from pressroom.reading.spaces import Blacks
 from pressroom.reading.walk import Walk, readable
 
 sys.pycache_prefix = None
+
+# Flags of annotations: ISO 32000-1, 12.5.3.
+HIDDEN, PRINT = 2, 4
 
 
 class Read(TypedDict):
@@ -108,7 +121,9 @@ class Page:
         for item in kept:
             if get(item, b"/OC") is not None:
                 del item[b"/OC"]
-            self.edit_appearance(item)
+            flags = int(number(get(item, b"/F")) or 0)
+            if flags & PRINT and not flags & HIDDEN:
+                self.edit_appearance(item)
 
     def edit_appearance(self, annotation: pikepdf.Object) -> None:
         """Follows what an annotation shows. Ghostscript draws some that have no appearance, perhaps in RGB."""

@@ -3,6 +3,7 @@
 Each stream is rewritten as little as possible: a stream without a change keeps its bytes. ISO 32000-1, 7.8, 8 and 9.
 """
 import functools
+import re
 from dataclasses import dataclass, replace
 from typing import TYPE_CHECKING
 
@@ -18,7 +19,7 @@ from pressroom.reading.optional import Optional
 from pressroom.reading.pictures import JPEG, JPEG_2000, filters, grey, is_cut, see_jpeg, untagged_2000
 from pressroom.reading.resources import Resources
 from pressroom.reading.spaces import DEVICE, INLINE, Blacks, Space, space_of
-from pressroom.reading.tokens import Instruction, Scrambled, Watch, instructions
+from pressroom.reading.tokens import Instruction, Scrambled, Watch, escaped, instructions
 
 if TYPE_CHECKING:
     from pressroom.reading.shadings import Shadings
@@ -27,6 +28,14 @@ PAINTING = {b"f", b"F", b"f*", b"S", b"s", b"B", b"B*", b"b", b"b*"}
 TEXT = {b"Tj", b"TJ", b"'", b'"'}
 COLOURS = {*DIRECT, b"cs", b"CS", b"sc", b"SC", b"scn", b"SCN"}
 INVISIBLE = 3
+# Abbreviations of keys and filters in inline images.
+ABBREVIATIONS = {
+    b"/BPC": b"/BitsPerComponent", b"/CS": b"/ColorSpace", b"/D": b"/Decode", b"/DP": b"/DecodeParms",
+    b"/F": b"/Filter", b"/H": b"/Height", b"/IM": b"/ImageMask", b"/W": b"/Width", b"/AHx": b"/ASCIIHexDecode",
+    b"/A85": b"/ASCII85Decode", b"/LZW": b"/LZWDecode", b"/Fl": b"/FlateDecode", b"/RL": b"/RunLengthDecode",
+    b"/CCF": b"/CCITTFaxDecode", b"/DCT": b"/DCTDecode",
+}  # fmt: skip
+NAME = re.compile(rb"/[A-Za-z0-9]+")
 # The most streams within one another. Ghostscript's own stack is less deep.
 MOST_DEPTH = 60
 
@@ -189,6 +198,8 @@ class Walk:
         key = "font", identity(font), mask, state.fill, state.stroke
         if key in self.made:
             return self.made[key]
+        # A glyph that shows text in its own font ends here.
+        self.made[key] = font
         own = get(font, b"/Resources")
         inner = Resources(own if is_dictionary(own) else resources.value, f"the font {shown(state.named)}")
         changes: dict[bytes, pikepdf.Object] = {}
@@ -378,19 +389,36 @@ class Reader:
         space = self.inline_space(word)
         self.walk.colours.lab |= space.has("lab")
         if space.has("rgb") and self.mask:
-            raise Unreadable(
-                "unsupported", f"an inline picture in RGB within a luminosity mask ({self.resources.where})"
-            )
+            where = f"an inline picture of {self.resources.where}"
+            picture = grey(self.walk.pdf, self.outlined(keys), space, where)
+            return escaped(self.resources.added(b"/XObject", picture)) + b" Do"
         self.walk.rgb |= space.has("rgb")
         return None
+
+    def outlined(self, keys: dict[bytes, bytes]) -> pikepdf.Object:
+        """Returns a picture with these keys and data of an inline image, whose names are written out."""
+        made = pikepdf.Stream(self.walk.pdf, keys[b"data"])
+        made.stream_dict = pikepdf.Dictionary(Subtype=pikepdf.Name("/Image"))
+        for key, text in keys.items():
+            if key != b"data":
+                value = pikepdf.Object.parse(whole(text))
+                made[ABBREVIATIONS.get(key, key)] = value
+        word = name(get(made, b"/ColorSpace"))
+        if word and word not in DEVICE:
+            made[b"/ColorSpace"] = self.resources.needed(b"/ColorSpace", word, "colour space")
+        return self.walk.pdf.make_indirect(made)
 
     def inline_space(self, word: bytes) -> Space:
         """Returns the colour space of an inline image."""
         if word.startswith(b"["):
-            return Space("other", None, Space("rgb") if b"/RGB" in word or b"/DeviceRGB" in word else None)
-        if word in INLINE or word in DEVICE:
-            return Space(DEVICE.get(INLINE.get(word, word), "other"))
-        return space_of(self.resources.find(b"/ColorSpace", word))
+            return space_of(pikepdf.Object.parse(whole(word)))
+        full = INLINE.get(word, word)
+        return Space(DEVICE[full]) if full in DEVICE else space_of(self.resources.find(b"/ColorSpace", word))
+
+
+def whole(text: bytes) -> bytes:
+    """Returns a value of an inline image with its names written out: ISO 32000-1, tables 93 and 94."""
+    return NAME.sub(lambda found: ABBREVIATIONS.get(found[0], INLINE.get(found[0], found[0])), text)
 
 
 def readable(stream: pikepdf.Object, where: str) -> bytes:
