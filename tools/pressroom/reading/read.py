@@ -176,6 +176,8 @@ def read(path: str, blacks: Blacks) -> Read:
         page = Page(pdf, blacks)
         found = page.read()
         if found["edited"]:
+            if found["count"] > 1:
+                del pdf.pages[1:]
             pdf.save("edited.pdf", compress_streams=False, stream_decode_level=pikepdf.StreamDecodeLevel.none)
     return found
 
