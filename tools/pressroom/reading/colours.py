@@ -92,7 +92,7 @@ class Colours:
     def flat(self, colour: tuple[float, ...], fill: bool, mask: bool) -> bytes:
         """Returns the operator that sets an RGB colour."""
         made = self.neutral(colour, fill, mask) if len(colour) == 3 else b"0 " + (b"g" if fill else b"G")
-        return made or b"%.6g %.6g %.6g " % colour + (b"rg" if fill else b"RG")
+        return made or written(colour) + (b" rg" if fill else b" RG")
 
     def neutral(self, colour: tuple[float, ...], fill: bool, mask: bool) -> bytes | None:
         """Returns the operator that sets a grey in place of an RGB colour, or None if it stays RGB."""
@@ -116,10 +116,9 @@ class Colours:
         if value is not None:
             return self.grey((value, value, value), fill, mask)
         self.lab = True
-        word = resources.added(b"/ColorSpace", space.value)
-        return b"%s %s %.6g %.6g %.6g %s" % (
-            escaped(word), b"cs" if fill else b"CS", *colour, b"sc" if fill else b"SC"
-        )  # fmt: skip
+        choose, paint = (b"cs", b"sc") if fill else (b"CS", b"SC")
+        word = escaped(resources.added(b"/ColorSpace", space.object()))
+        return b"%s %s %s %s" % (word, choose, written(colour), paint)
 
     def patterned(
         self,
@@ -142,12 +141,17 @@ class Colours:
             own = resources.added(b"/ColorSpace", GREY_PATTERN)
             return b"%s %s %.6f %s %s" % (escaped(own), choose, value, escaped(word), paint)
         self.rgb = True
-        own = resources.added(b"/ColorSpace", space.value)
-        return b"%s %s %.6g %.6g %.6g %s %s" % (escaped(own), choose, *colour, escaped(word), paint)
+        own = resources.added(b"/ColorSpace", space.object())
+        return b"%s %s %s %s %s" % (escaped(own), choose, written(colour), escaped(word), paint)
 
 
 def chosen(state: State, space: Space, fill: bool) -> State:
     return replace(state, fill=space) if fill else replace(state, stroke=space)
+
+
+def written(colour: tuple[float, ...]) -> bytes:
+    """Returns components as a content stream has them."""
+    return b" ".join(b"%.6f" % part for part in colour)
 
 
 def values(operands: tuple[Operand, ...]) -> tuple[float, ...]:

@@ -77,7 +77,8 @@ def facts_of(page: pikepdf.Object) -> Facts:
 def in_array(value: pikepdf.Object, facts: Facts) -> list[pikepdf.Object]:
     """Looks at an array. Returns the arrays and dictionaries within it."""
     if len(value) and name(value[0]) in (b"/Separation", b"/DeviceN") and len(value) > 1:
-        names = value[1] if is_array(value[1]) else [value[1]]
+        second = value[1]
+        names = list(second) if is_array(second) else [second]
         facts.spots |= {name(item) for item in names} - INKS - {b""}
     found = []
     for place in range(len(value)):

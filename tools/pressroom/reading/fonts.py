@@ -14,7 +14,7 @@ def is_embedded(font: pikepdf.Object) -> bool:
     inner: object = font
     if kind == b"/Type0":
         descendants = get(font, b"/DescendantFonts")
-        inner = descendants[0] if is_array(descendants) and len(descendants) else None  # type: ignore[arg-type, index]
+        inner = descendants[0] if is_array(descendants) and len(descendants) else None
     descriptor = get(inner, b"/FontDescriptor")
     return is_dictionary(descriptor) and any(get(descriptor, key) is not None for key in FILES)
 

@@ -6,11 +6,12 @@ from dataclasses import dataclass
 
 import numpy as np
 import pikepdf
+from numpy.typing import NDArray
 
 from pressroom.reading import objects
 from pressroom.reading.objects import Unreadable, get, is_array, is_dictionary, is_stream, number, numbers
 
-Values = np.ndarray
+Values = NDArray[np.float64]
 # A program of a calculator function: numbers, operators and programs.
 Program = list["float | str | Program"]
 MOST_DEPTH, MOST_STEPS = 32, 100_000
@@ -44,7 +45,7 @@ def function_of(value: object, depth: int = 0) -> Function:
     if depth > MOST_DEPTH:
         raise malformed("is nested too deeply")
     if is_array(value):
-        parts = [function_of(item, depth + 1) for item in value]  # type: ignore[attr-defined]
+        parts = [function_of(item, depth + 1) for item in value]
         if not parts:
             raise malformed("is an empty list")
         return Function(parts[0].domain, lambda given: np.concatenate([part(given) for part in parts]))
@@ -67,7 +68,8 @@ def exponential(value: object, domain: Values, depth: int) -> Callable[[Values],
     power = number(get(value, b"/N"))
     if power is None or first.shape != last.shape:
         raise malformed("of type 2 has no N, or C0 and C1 differ in length")
-    return lambda given: first + np.power(np.maximum(given, 0), power) * (last - first)
+    exponent = power
+    return lambda given: np.asarray(first + np.power(np.maximum(given, 0), exponent) * (last - first))
 
 
 def stitched(value: object, domain: Values, depth: int) -> Callable[[Values], Values]:
@@ -107,7 +109,7 @@ def sampled(value: object, domain: Values, depth: int) -> Callable[[Values], Val
     count = math.prod(sizes) * len(limits)
     if min(sizes) < 1 or count > 1 << 24:
         raise malformed("of type 0 has too many samples")
-    samples = samples_of(value.read_bytes(), int(bits), count)  # type: ignore[attr-defined]
+    samples = samples_of(value.read_bytes(), int(bits), count)
     encode = pairs(value, b"/Encode")
     encode = encode if len(encode) == len(sizes) else np.array([(0, size - 1) for size in sizes], dtype=float)
     decode = pairs(value, b"/Decode")
@@ -133,7 +135,7 @@ def samples_of(data: bytes, bits: int, count: int) -> Values:
     if bits in (8, 16, 32):
         return np.frombuffer(data, f">u{bits // 8}", count).astype(float)
     ones = np.unpackbits(np.frombuffer(data, np.uint8), count=bits * count).reshape(count, bits)
-    return ones.astype(float) @ (2.0 ** np.arange(bits)[::-1])
+    return np.asarray(ones.astype(float) @ (2.0 ** np.arange(bits)[::-1]))
 
 
 def interpolated(table: Values, places: Values, sizes: list[int]) -> Values:
@@ -155,7 +157,7 @@ def interpolated(table: Values, places: Values, sizes: list[int]) -> Values:
 def calculated(value: object, domain: Values, depth: int) -> Callable[[Values], Values]:
     if not is_stream(value):
         raise malformed("of type 4 has no program")
-    text = re.sub(rb"%[^\r\n]*", b" ", value.read_bytes())  # type: ignore[attr-defined]
+    text = re.sub(rb"%[^\r\n]*", b" ", value.read_bytes())
     program = program_of(re.findall(rb"[{}]|[^\s{}]+", text))
     outputs = len(pairs(value, b"/Range"))
 

@@ -3,11 +3,13 @@ from collections.abc import Callable
 
 import numpy as np
 import pikepdf
+from numpy.typing import NDArray
 
 from pressroom.reading.functions import Values, pairs
-from pressroom.reading.objects import Unreadable, copied, get, is_stream, number, numbers
+from pressroom.reading.objects import Unreadable, get, is_stream, number, numbers, without
 from pressroom.reading.spaces import NEUTRAL
 
+Bits = NDArray[np.uint8]
 # Points and colours of a patch, by its flag, in the meshes of types 6 and 7.
 PATCHES = {
     6: {0: (12, 4), 1: (8, 2), 2: (8, 2), 3: (8, 2)},
@@ -71,10 +73,7 @@ def grey_mesh(
     if not always and (colours.max(axis=0) - colours.min(axis=0) >= NEUTRAL).any():
         return None
     grey = (np.clip(change(colours)[0], 0, 1) * 65535 + 0.5).astype(np.uint16)
-    made = copied(shading.stream_dict)
-    for key in (b"/Length", b"/Filter", b"/DecodeParms"):
-        if key in made:
-            del made[key]
+    made = without(shading.stream_dict, b"/Length", b"/Filter", b"/DecodeParms")
     made[b"/ColorSpace"], made[b"/BitsPerComponent"] = pikepdf.Name("/DeviceGray"), 16
     made[b"/Decode"] = [*numbers(get(shading, b"/Decode"))[:4], 0, 1]
     stream = pikepdf.Stream(pdf, repacked(ones, int(kind), flag_bits, point, bits, grey))
@@ -82,7 +81,7 @@ def grey_mesh(
     return pdf.make_indirect(stream)
 
 
-def records(ones: Values, kind: int, flag_bits: int, point: int, bits: int) -> list[tuple[int, int, int]]:
+def records(ones: Bits, kind: int, flag_bits: int, point: int, bits: int) -> list[tuple[int, int, int]]:
     """Returns the vertices or patches of a mesh: where each begins, in bits, the bits before its colours, and how many
     colours it has.
     """
@@ -102,7 +101,7 @@ def records(ones: Values, kind: int, flag_bits: int, point: int, bits: int) -> l
     return found
 
 
-def color_places(ones: Values, kind: int, flag_bits: int, point: int, bits: int) -> Values:
+def color_places(ones: Bits, kind: int, flag_bits: int, point: int, bits: int) -> NDArray[np.int64]:
     """Returns where each colour of a mesh begins, in bits."""
     return np.array(
         [
@@ -114,7 +113,7 @@ def color_places(ones: Values, kind: int, flag_bits: int, point: int, bits: int)
     )
 
 
-def repacked(ones: Values, kind: int, flag_bits: int, point: int, bits: int, grey: Values) -> bytes:
+def repacked(ones: Bits, kind: int, flag_bits: int, point: int, bits: int, grey: NDArray[np.uint16]) -> bytes:
     """Returns a mesh's data with these greys of 16 bits in place of its colours."""
     made, taken = [], 0
     for at, before, colours in records(ones, kind, flag_bits, point, bits):

@@ -3,6 +3,7 @@ no encoding, and pikepdf's own strings can't hold those that aren't UTF-8.
 """
 from collections.abc import Iterator
 from decimal import Decimal
+from typing import TypeGuard
 
 import pikepdf
 
@@ -20,17 +21,21 @@ class Unreadable(Exception):
         self.kind = kind
 
 
-def is_dictionary(value: object) -> bool:
+def is_dictionary(value: object) -> TypeGuard[pikepdf.Object]:
     """Returns whether a value is a dictionary or a stream."""
     return isinstance(value, (pikepdf.Dictionary, pikepdf.Stream))
 
 
-def is_stream(value: object) -> bool:
+def is_stream(value: object) -> TypeGuard[pikepdf.Stream]:
     return isinstance(value, pikepdf.Stream)
 
 
-def is_array(value: object) -> bool:
+def is_array(value: object) -> TypeGuard[pikepdf.Array]:
     return isinstance(value, pikepdf.Array)
+
+
+def is_true(value: object) -> bool:
+    return value is True
 
 
 def get(holder: object, key: bytes) -> pikepdf.Object | None:
@@ -103,4 +108,13 @@ def copied(holder: pikepdf.Object) -> pikepdf.Object:
     made = pikepdf.Dictionary()
     for key, value in items(holder):
         made[key] = value
+    return made
+
+
+def without(holder: pikepdf.Object, *keys_: bytes) -> pikepdf.Object:
+    """Returns a direct copy of a dictionary without these keys."""
+    made = copied(holder)
+    for key in keys_:
+        if key in made:
+            del made[key]
     return made

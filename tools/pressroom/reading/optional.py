@@ -52,7 +52,7 @@ class Optional:
         if is_array(expression):
             return self.holds(expression, 0)
         members = get(group, b"/OCGs")
-        groups = listed(members) if is_array(members) else [members]
+        groups: list[object] = [*listed(members)] if is_array(members) else [members]
         states = [
             self.shows(item)
             for item in groups

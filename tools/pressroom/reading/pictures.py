@@ -16,6 +16,7 @@ from pressroom.reading.spaces import LUMINOSITY, Space
 
 if TYPE_CHECKING:
     import numpy as np
+    from numpy.typing import NDArray
 
 JPEG, JPEG_2000 = b"/DCTDecode", b"/JPXDecode"
 # A marker that ends a scan: not a byte of the scan, nor a restart.
@@ -72,7 +73,8 @@ class Jpeg2000:
 
 def boxes(data: bytes) -> list[tuple[bytes, bytes]]:
     """Returns the boxes of a JPEG 2000 file, those of its header among them: ISO 15444-1, annex I."""
-    found, at = [], 0
+    found: list[tuple[bytes, bytes]] = []
+    at = 0
     while at + 8 <= len(data) and len(found) < 1000:
         size, kind, head = int.from_bytes(data[at : at + 4], "big"), data[at + 4 : at + 8], 8
         if size == 1:
@@ -153,7 +155,7 @@ def opened(pdf: pikepdf.Pdf, picture: pikepdf.Object, where: str) -> Image.Image
         raise Unreadable("damaged", f"damaged: {where} can't be decoded: {error}") from None
 
 
-def plain(pdf: pikepdf.Pdf, picture: pikepdf.Object, samples: "np.ndarray") -> pikepdf.Object:
+def plain(pdf: pikepdf.Pdf, picture: pikepdf.Object, samples: "NDArray[np.uint8]") -> pikepdf.Object:
     """Returns a picture of these samples, grey or RGB, with the other keys of the picture."""
     import numpy as np
 
@@ -168,7 +170,7 @@ def plain(pdf: pikepdf.Pdf, picture: pikepdf.Object, samples: "np.ndarray") -> p
     return pdf.make_indirect(stream)
 
 
-def samples_of(pdf: pikepdf.Pdf, picture: pikepdf.Object, where: str) -> "np.ndarray":
+def samples_of(pdf: pikepdf.Pdf, picture: pikepdf.Object, where: str) -> "NDArray[np.float32]":
     """Returns the components of an RGB picture, rows by columns by three, from 0 to 1."""
     import numpy as np
 
@@ -197,7 +199,7 @@ def grey(pdf: pikepdf.Pdf, picture: pikepdf.Object, space: Space, where: str) ->
     if is_array(get(picture, b"/Mask")):
         raise Unreadable("unsupported", f"{where} is RGB with a colour key, within a luminosity mask")
     if space.kind == "indexed":
-        made = pikepdf.Stream(pdf, picture.read_raw_bytes())
+        made: pikepdf.Object = pikepdf.Stream(pdf, picture.read_raw_bytes())
         made.stream_dict = copied(picture.stream_dict)
         table = np.frombuffer(space.table[: len(space.table) // 3 * 3], np.uint8).reshape(-1, 3) @ np.array(
             LUMINOSITY

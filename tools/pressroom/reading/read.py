@@ -41,6 +41,7 @@ sys.pycache_prefix = None
 
 # Flags of annotations: ISO 32000-1, 12.5.3.
 HIDDEN, PRINT = 2, 4
+FORM = pikepdf.Name("/Form")
 
 
 class Read(TypedDict):
@@ -99,7 +100,7 @@ class Page:
     def edit_contents(self) -> None:
         """Follows the page's own content streams, which count as one."""
         contents = get(self.page, b"/Contents")
-        parts = list(contents) if is_array(contents) else [contents]  # type: ignore[call-overload]
+        parts: list[object] = [*contents] if is_array(contents) else [contents]
         data = b"\n".join(readable(part, "the page") for part in parts if is_stream(part))
         own = Resources(inherited(self.page, b"/Resources"), "the page")
         text, resources = self.walk.stream(data, own, State(), False)
@@ -114,8 +115,8 @@ class Page:
         annotations = get(self.page, b"/Annots")
         if not is_array(annotations):
             return
-        kept = [item for item in annotations if self.optional.shows(get(item, b"/OC"))]  # type: ignore[attr-defined]
-        if len(kept) != len(annotations):  # type: ignore[arg-type]
+        kept = [item for item in annotations if self.optional.shows(get(item, b"/OC"))]
+        if len(kept) != len(annotations):
             self.page[b"/Annots"] = pikepdf.Array(kept)
             self.changed = True
         for item in kept:
@@ -132,15 +133,15 @@ class Page:
             self.walk.rgb |= name(get(annotation, b"/Subtype")) not in (b"/Link", b"/Popup")
             return
         where = f"the annotation {name(get(annotation, b'/Subtype')).decode('latin-1')[1:]}"
-        states = [(b"", look)] if is_stream(look) else list(items(look))
+        states: list[tuple[bytes, pikepdf.Object]] = [(b"", look)] if is_stream(look) else list(items(look))
         for word, stream in states:
             if not is_stream(stream):
                 continue
-            if not self.optional.shows(get(stream, b"/OC")):
-                stream = self.pdf.make_indirect(pikepdf.Stream(self.pdf, b""))
-                stream.stream_dict = pikepdf.Dictionary(Subtype=pikepdf.Name("/Form"), BBox=[0, 0, 1, 1])
-            new = self.walk.content(stream, None, where, State(), False)
-            if new is get(look, word) or new is look:
+            if self.optional.shows(get(stream, b"/OC")):
+                new = self.walk.content(stream, None, where, State(), False)
+            else:
+                new = self.pdf.make_indirect(pikepdf.Stream(self.pdf, b"", Subtype=FORM, BBox=[0, 0, 1, 1]))
+            if new is stream:
                 continue
             self.changed = True
             if word:

@@ -27,10 +27,11 @@ class Resources:
 
     def change(self, category: bytes, word: bytes, old: object, new: pikepdf.Object) -> None:
         """Puts another object in the place of a resource, unless it's the same."""
-        if new is not old:
+        mark = identity(new)
+        if new is not old and (mark is None or mark != identity(old)):
             self.changes.setdefault(category, {})[word] = new
 
-    def added(self, category: bytes, value: object) -> bytes:
+    def added(self, category: bytes, value: pikepdf.Object) -> bytes:
         """Adds a resource, and returns its name."""
         holder = get(self.value, category)
         for word, known in self.changes.get(category, {}).items():
@@ -43,7 +44,7 @@ class Resources:
         number = 0
         while get(holder, word := b"/Own%d" % number) is not None or word in self.changes.get(category, {}):
             number += 1
-        self.changes.setdefault(category, {})[word] = value  # type: ignore[assignment]
+        self.changes.setdefault(category, {})[word] = value
         self.used.setdefault(category, set()).add(word)
         return word
 
@@ -53,7 +54,7 @@ class Resources:
         """
         if not self.changes and not prune:
             return None
-        made = copied(self.value) if is_dictionary(self.value) else pikepdf.Dictionary()  # type: ignore[arg-type]
+        made = copied(self.value) if is_dictionary(self.value) else pikepdf.Dictionary()
         for category in {*self.changes, *([key for key, _ in items(made)] if prune else [])}:
             old = get(made, category)
             if not is_dictionary(old) and category not in self.changes:

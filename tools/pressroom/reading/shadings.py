@@ -19,6 +19,7 @@ from pressroom.reading.objects import (
     is_stream,
     number,
     numbers,
+    without,
 )
 from pressroom.reading.spaces import LUMINOSITY, NEUTRAL, Blacks, space_of
 
@@ -107,30 +108,25 @@ class Shadings:
         """Returns a stream with these keys if the shading is one."""
         if not is_stream(shading):
             return made
-        for key in (b"/Length", b"/Filter", b"/DecodeParms"):
-            if key in made:
-                del made[key]
         stream = pikepdf.Stream(self.pdf, shading.read_bytes())
-        stream.stream_dict = made
+        stream.stream_dict = without(made, b"/Length", b"/Filter", b"/DecodeParms")
         return self.pdf.make_indirect(stream)
 
     def is_grey(self, function: Function) -> bool:
-        places = np.linspace(*function.domain[0], SAMPLES)[None]
-        values = function(places)
+        low, high = function.domain[0]
+        values = function(np.linspace(low, high, SAMPLES)[None])
         return len(values) == 3 and bool((values.max(axis=0) - values.min(axis=0) < NEUTRAL).all())
 
     def mapped(self, function: object, change: Callable[[Values], Values], mask: bool) -> pikepdf.Object:
         """Returns a function whose one output is changed from the three of this one."""
         kind = number(get(function, b"/FunctionType"))
-        if kind == 3 and is_array(get(function, b"/Functions")):
-            made = copied(function)  # type: ignore[arg-type]
+        if is_dictionary(function) and kind == 3 and is_array(get(function, b"/Functions")):
+            made = without(function, b"/Range")
             parts = [self.mapped(part, change, mask) for part in made[b"/Functions"]]
             made[b"/Functions"] = pikepdf.Array(parts)
-            if b"/Range" in made:
-                del made[b"/Range"]
             return made
-        if kind == 2 and mask and get(function, b"/Range") is None:
-            made = copied(function)  # type: ignore[arg-type]
+        if is_dictionary(function) and kind == 2 and mask and get(function, b"/Range") is None:
+            made = copied(function)
             for key in (b"/C0", b"/C1"):
                 made[key] = [float(change(np.array([numbers(made.get(key))]).T)[0, 0])]
             return made
@@ -139,7 +135,7 @@ class Shadings:
         return of_samples(self.pdf, change(found(np.linspace(low, high, SAMPLES)[None])), (low, high))
 
     def luminous(self, colours: Values) -> Values:
-        return np.array([LUMINOSITY]) @ np.clip(colours, 0, 1)
+        return np.asarray(np.array([LUMINOSITY]) @ np.clip(colours, 0, 1), float)
 
     def black(self, colours: Values) -> Values:
         steps = np.clip(colours.mean(axis=0), 0, 1)

@@ -29,6 +29,10 @@ class Space:
     base: "Space | None" = None
     table: bytes = b""
 
+    def object(self) -> pikepdf.Object:
+        """Returns the PDF's object of this space."""
+        return self.value if isinstance(self.value, pikepdf.Object) else pikepdf.Name("/DeviceGray")
+
     def has(self, kind: str) -> bool:
         """Returns whether this space, or that which it is based on, is of this kind."""
         return self.kind == kind or (self.base is not None and self.base.has(kind))
@@ -45,7 +49,7 @@ def profile_kind(stream: object) -> str:
     count = number(get(stream, b"/N"))
     if count == 3 and is_stream(stream):
         try:
-            if stream.read_bytes()[16:20] == b"Lab ":  # type: ignore[attr-defined]
+            if stream.read_bytes()[16:20] == b"Lab ":
                 return "lab"
         except pikepdf.PdfError:
             pass
@@ -58,10 +62,10 @@ def space_of(value: object, depth: int = 0) -> Space:
         return Space("other", value)
     if word := name(value):
         return Space(DEVICE.get(word, "other"), value)
-    if not is_array(value) or not len(value):  # type: ignore[arg-type]
+    if not is_array(value) or not len(value):
         return Space("other", value)
-    word = name(value[0])  # type: ignore[index]
-    second = value[1] if len(value) > 1 else None  # type: ignore[index, arg-type]
+    word = name(value[0])
+    second = value[1] if len(value) > 1 else None
     if word in (b"/CalRGB", b"/CalGray", b"/CalCMYK", b"/Lab"):
         return Space(
             {b"/CalRGB": "rgb", b"/CalGray": "gray", b"/CalCMYK": "cmyk", b"/Lab": "lab"}[word], value
@@ -69,7 +73,7 @@ def space_of(value: object, depth: int = 0) -> Space:
     if word == b"/ICCBased":
         return Space(profile_kind(second), value)
     if word == b"/Indexed":
-        table = value[3] if len(value) > 3 else b""  # type: ignore[index, arg-type]
+        table = value[3] if len(value) > 3 else b""
         data = (
             table.read_bytes()
             if is_stream(table)
@@ -85,13 +89,13 @@ def space_of(value: object, depth: int = 0) -> Space:
 
 def untagged(value: object) -> pikepdf.Object | None:
     """Returns what takes the place of a space of grey or CMYK with a profile, or None if the value is no such space."""
-    if not is_array(value) or not 1 < len(value) < 3:  # type: ignore[arg-type]
+    if not is_array(value) or not 1 < len(value) < 3:
         return None
-    word = name(value[0])  # type: ignore[index]
+    word = name(value[0])
     if word == b"/CalGray":
         return pikepdf.Name("/DeviceGray")
-    if word == b"/ICCBased" and is_dictionary(value[1]):  # type: ignore[index]
-        count = number(get(value[1], b"/N"))  # type: ignore[index]
+    if word == b"/ICCBased" and is_dictionary(value[1]):
+        count = number(get(value[1], b"/N"))
         return {1: pikepdf.Name("/DeviceGray"), 4: pikepdf.Name("/DeviceCMYK")}.get(int(count or 0))
     return None
 
@@ -104,7 +108,7 @@ def is_neutral(colour: tuple[float, ...]) -> bool:
 def lightness(colour: tuple[float, ...]) -> float | None:
     """Returns the value of the RGB grey that has the lightness of a neutral Lab colour, or None if it has a colour."""
     light, *rest = colour
-    if max(map(abs, rest), default=0) >= 0.5:
+    if any(abs(part) >= 0.5 for part in rest):
         return None
     return encoded(luminance(light))
 
@@ -139,5 +143,5 @@ class Blacks:
 
 def lab_range(space: Space) -> tuple[float, ...]:
     """Returns the range of a and b."""
-    found = numbers(get(space.value[1], b"/Range")) if is_array(space.value) else ()  # type: ignore[index]
+    found = numbers(get(space.value[1], b"/Range")) if is_array(space.value) else ()
     return found if len(found) == 4 else (-100.0, 100.0, -100.0, 100.0)

@@ -13,7 +13,7 @@ from pressroom.reading.colours import DIRECT, Colours, State
 from pressroom.reading.fonts import is_embedded, shown_name
 
 from pressroom.reading.objects import (
-    Unreadable, copied, get, identity, is_array, is_dictionary, is_stream, items, name, shown,
+    Unreadable, copied, get, identity, is_array, is_dictionary, is_stream, is_true, items, name, shown, without,
 )  # fmt: skip
 from pressroom.reading.optional import Optional
 from pressroom.reading.pictures import JPEG, JPEG_2000, filters, grey, is_cut, see_jpeg, untagged_2000
@@ -70,8 +70,10 @@ class Walk:
 
     def colourful(self) -> tuple[bool, bool]:
         """Returns whether the page shows RGB, and whether it shows Lab."""
-        parts = [self.colours, *([self.shadings] if "shadings" in self.__dict__ else [])]
-        return self.rgb or any(part.rgb for part in parts), any(part.lab for part in parts)
+        rgb, lab = self.rgb or self.colours.rgb, self.colours.lab
+        if "shadings" in self.__dict__:
+            rgb, lab = rgb or self.shadings.rgb, lab or self.shadings.lab
+        return rgb, lab
 
     def stream(
         self, data: bytes, resources: Resources, state: State, mask: bool
@@ -112,14 +114,14 @@ class Walk:
         self.stack.pop()
         group = get(holder, b"/Group")
         plain = not root and get(group, b"/CS") is not None
-        made = holder
+        made: pikepdf.Object = holder
         if text is not None or resources is not None or plain:
             made = pikepdf.Stream(self.pdf, data if text is None else text)
             made.stream_dict = without(holder.stream_dict, b"/Length", b"/Filter", b"/DecodeParms")
             if resources is not None:
                 made[b"/Resources"] = resources
-            if plain:
-                made[b"/Group"] = without(group, b"/CS")  # type: ignore[arg-type]
+            if plain and is_dictionary(group):
+                made[b"/Group"] = without(group, b"/CS")
             made = self.pdf.make_indirect(made)
         self.made[key] = made
         return made
@@ -130,15 +132,15 @@ class Walk:
         """Follows the soft mask of a graphics state. Returns the graphics state that takes its place."""
         soft = get(value, b"/SMask")
         group = get(soft, b"/G")
-        if not is_stream(group):
+        if not is_stream(group) or not is_dictionary(soft):
             return value
         luminous = name(get(soft, b"/S")) == b"/Luminosity"
         self.luminous |= luminous
         where = f"a soft mask of {resources.where}"
-        new = self.content(group, resources, where, State(), mask or luminous, root=True)  # type: ignore[arg-type]
+        new = self.content(group, resources, where, State(), mask or luminous, root=True)
         if new is group:
             return value
-        made, inner = copied(value), copied(soft)  # type: ignore[arg-type]
+        made, inner = copied(value), copied(soft)
         inner[b"/G"] = new
         made[b"/SMask"] = inner
         return made
@@ -171,8 +173,8 @@ class Walk:
             made = untagged_2000(self.pdf, value, where)
         for part in (b"/SMask", b"/Mask"):
             inner = get(value, part)
-            if is_stream(inner) and filters(inner)[-1:] == [JPEG]:  # type: ignore[arg-type]
-                see_jpeg(self.pdf, inner, f"the mask of {where}")  # type: ignore[arg-type]
+            if is_stream(inner) and filters(inner)[-1:] == [JPEG]:
+                see_jpeg(self.pdf, inner, f"the mask of {where}")
         space = self.space_of_picture(made, resources)
         if space.has("rgb") and mask and space.kind in ("rgb", "indexed"):
             made = grey(self.pdf, made, space, where)
@@ -184,7 +186,7 @@ class Walk:
 
     def space_of_picture(self, value: pikepdf.Object, resources: Resources) -> Space:
         """Returns the colour space of a picture. JPEG 2000 without one counts as RGB if it has no other."""
-        if get(value, b"/ImageMask") is True:
+        if is_true(get(value, b"/ImageMask")):
             return Space("gray")
         found = get(value, b"/ColorSpace")
         if found is None:
@@ -195,16 +197,19 @@ class Walk:
 
     def glyphs(self, font: pikepdf.Object, resources: Resources, state: State, mask: bool) -> pikepdf.Object:
         """Follows the glyphs of a Type 3 font. Returns the font that takes its place."""
-        key = "font", identity(font), mask, state.fill, state.stroke
+        key, procs = ("font", identity(font), mask, state.fill, state.stroke), get(font, b"/CharProcs")
         if key in self.made:
             return self.made[key]
+        if not is_dictionary(procs):
+            return font
         # A glyph that shows text in its own font ends here.
-        self.made[key] = font
+        if identity(font):
+            self.made[key] = font
         own = get(font, b"/Resources")
         inner = Resources(own if is_dictionary(own) else resources.value, f"the font {shown(state.named)}")
         changes: dict[bytes, pikepdf.Object] = {}
         texts: dict[bytes, bytes] = {}
-        for word, glyph in items(get(font, b"/CharProcs")):
+        for word, glyph in items(procs):
             if not is_stream(glyph) or identity(glyph) in self.stack:
                 continue
             self.stack.append(identity(glyph))
@@ -220,14 +225,15 @@ class Walk:
             for word, text in texts.items():
                 changes[word] = self.pdf.make_indirect(pikepdf.Stream(self.pdf, text))
             made = copied(font)
-            procs = copied(get(font, b"/CharProcs"))  # type: ignore[arg-type]
+            procs = copied(procs)
             for word, stream in changes.items():
                 procs[word] = stream
             made[b"/CharProcs"] = procs
             if new is not None:
                 made[b"/Resources"] = new
             made = self.pdf.make_indirect(made)
-        self.made[key] = made
+        if identity(font):
+            self.made[key] = made
         return made
 
 
@@ -312,7 +318,7 @@ class Reader:
         if font is None and self.state.named:
             font = self.resources.needed(b"/Font", self.state.named, "font")
         if is_dictionary(font):
-            self.see_font(font)  # type: ignore[arg-type]
+            self.see_font(font)
         return None
 
     def see_font(self, font: pikepdf.Object) -> None:
@@ -340,8 +346,8 @@ class Reader:
         new = self.walk.state_of(old, self.resources, self.state, self.mask)
         self.resources.change(b"/ExtGState", word, old, new)
         font = get(old, b"/Font")
-        if is_array(font) and len(font):  # type: ignore[arg-type]
-            self.state = replace(self.state, font=font[0], named=b"")  # type: ignore[index]
+        if is_array(font) and len(font):
+            self.state = replace(self.state, font=font[0], named=b"")
 
     def painted(self, instruction: Instruction) -> bytes | None:
         """Follows an operator that paints a form, a picture or a shading."""
@@ -436,12 +442,3 @@ def spliced(data: bytes, edits: list[Edit]) -> bytes:
         parts += [data[at : edit.start], edit.text]
         at = edit.end
     return b"".join([*parts, data[at:]])
-
-
-def without(holder: pikepdf.Object, *keys: bytes) -> pikepdf.Object:
-    """Returns a copy of a dictionary without these keys."""
-    made = copied(holder)
-    for key in keys:
-        if key in made:
-            del made[key]
-    return made
