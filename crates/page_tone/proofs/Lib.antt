@@ -1,3 +1,4 @@
+pub mod BlockLemmas
 pub mod CurveLemmas
 pub mod LimitLemmas
 pub mod ReciprocalLemmas

@@ -1,11 +1,11 @@
 -- A row whose pixels are limited from left to right.
-use Rattle.std.proofs.Common.{◌≡◌, ◌≢◌, ⊎_elim, ℕ, ◌+◌, ◌*◌, ◌/◌, ◌<◌, ◌≤◌, min, List, length, get_or, set, ap, sym, subst, ◌∙◌, arith, below_more, get_or-set_same, get_or-set_other}
+use Rattle.std.proofs.Common.{◌≡◌, ◌≢◌, ⊎_elim, ℕ, ◌+◌, ◌*◌, ◌/◌, ◌<◌, ◌≤◌, min, List, length, get_or, set, refl, ap, sym, subst, ◌∙◌, arith, below_more, get_or-set_same, get_or-set_other}
 use Rattle.std.proofs.Math.Nat.{min-eq_left}
 use Rattle.std.proofs.lemmas.Bool.{cases_lt}
 use Rattle.page_tone.specs.Limit.{HasLimited, IsWritten, limited, limited_at}
 
 -- one more value has been written
-written-more : (value : ℕ → ℕ) (from x v : ℕ) (old now : List ℕ) → x < length now → from ≤ x → IsWritten value from x old now → v ≡ value x → IsWritten value from (x + 1) old (set now x v)
+pub written-more : (value : ℕ → ℕ) (from x v : ℕ) (old now : List ℕ) → x < length now → from ≤ x → IsWritten value from x old now → v ≡ value x → IsWritten value from (x + 1) old (set now x v)
 written-more value from x v old now within above so is = record {
   inside = λ k reached less. below_more (λ k. from ≤ k → get_or (set now x v) k 0 ≡ value k) x
       (λ k less reached. (let other : k ≢ x = omega arith in get_or-set_other now x k v 0 other ∙ so.inside k reached less))
@@ -15,7 +15,7 @@ written-more value from x v old now within above so is = record {
 }
 
 -- one written part after another
-written-join : (value next : ℕ → ℕ) (from at to : ℕ) (old mid new : List ℕ) → from ≤ at → at ≤ to → IsWritten value from at old mid → IsWritten next at to mid new → ((x : ℕ) → at ≤ x → next x ≡ value x) → IsWritten value from to old new
+pub written-join : (value next : ℕ → ℕ) (from at to : ℕ) (old mid new : List ℕ) → from ≤ at → at ≤ to → IsWritten value from at old mid → IsWritten next at to mid new → ((x : ℕ) → at ≤ x → next x ≡ value x) → IsWritten value from to old new
 written-join value next from at to old mid new begins ends first second same = record {
   inside = λ x above less. ⊎_elim
       (λ (left : x < at). second.before x left ∙ first.inside x above left)
@@ -23,6 +23,22 @@ written-join value next from at to old mid new begins ends first second same = r
       (cases_lt x at);
   before = λ x less. second.before x (omega arith) ∙ first.before x less;
   behind = λ x past. second.behind x past ∙ first.behind x (omega arith);
+}
+
+-- the same part with values that another function gives too
+pub written-same : (value next : ℕ → ℕ) (from to : ℕ) (old new : List ℕ) → ((x : ℕ) → from ≤ x → x < to → value x ≡ next x) → IsWritten value from to old new → IsWritten next from to old new
+written-same value next from to old new same so = record {
+  inside = λ x above less. so.inside x above less ∙ same x above less;
+  before = so.before;
+  behind = so.behind;
+}
+
+-- nothing is written
+pub written-none : (value : ℕ → ℕ) (from : ℕ) (old : List ℕ) → IsWritten value from from old old
+written-none value from old = record {
+  inside = λ x above less. absurd (omega arith);
+  before = λ x less. refl;
+  behind = λ x past. refl;
 }
 
 limited_at-same : (limit x : ℕ) (c m y k c' m' y' k' : List ℕ) → get_or c x 0 ≡ get_or c' x 0 → get_or m x 0 ≡ get_or m' x 0 → get_or y x 0 ≡ get_or y' x 0 → get_or k x 0 ≡ get_or k' x 0 → limited_at limit c m y k x ≡ limited_at limit c' m' y' k' x

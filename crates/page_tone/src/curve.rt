@@ -2,6 +2,7 @@
 ghost use Rattle.std.specs.Prelude.{◌≡◌, ℕ, ◌<◌, ◌≤◌, ◌↔◌, IsTrue, length, slice_index};
 ghost use Rattle.page_tone.specs.Curve.{AreValid, curve_value, line_value};
 
+use crate::block::{BLOCK, all_are, fill};
 use std::marker::Model;
 
 /// Returns whether these points make a curve: 2 to 32 points whose input values strictly rise from 0 to 255.
@@ -40,6 +41,9 @@ impl Model for Curve {
 }
 
 impl Curve {
+    ghost use Rattle.std.specs.Prelude.{◌≡◌, ℕ, ◌+◌, ◌<◌, ◌≤◌, length, slice_index};
+    ghost use Rattle.page_tone.specs.Limit.{IsWritten};
+
     /// Makes the curve through these points: straight lines between neighbours, rounded down.
     pub fn from_points(points: &[(u8, u8)]) -> Curve
         requires { AreValid points.now }
@@ -70,6 +74,47 @@ impl Curve {
         ensures { result ≡ slice_index self.now v }
     {
         self.values[v as usize]
+    }
+
+    /// Writes what each of these values becomes. A block of one value takes one look-up.
+    pub fn apply(&self, values: &[u8], into: &mut [u8])
+        requires { length values.now ≡ length into.old }
+        ensures { (x : ℕ) → x < length into.new →
+            slice_index into.new x ≡ slice_index self.now (slice_index values.now x) }
+    {
+        let whole = values.len() / BLOCK;
+        for block in 0..whole {
+            self.apply_block(BLOCK * block, values, into);
+        }
+        self.apply_each(BLOCK * whole, values.len(), values, into);
+    }
+
+    /// Writes what each value of the block at column `from` becomes.
+    fn apply_block(&self, from: usize, values: &[u8], into: &mut [u8])
+        requires block { from + BLOCK ≤ length values.now }
+        requires into { length values.now ≡ length into.old }
+        ensures { IsWritten (λ x. slice_index self.now (slice_index values.now x)) from (from + BLOCK)
+            into.old into.new }
+    {
+        let first = values[from];
+        if all_are(values, from, first) {
+            fill(from, self.at(first), into);
+            return;
+        }
+        self.apply_each(from, from + BLOCK, values, into);
+    }
+
+    /// Writes what each value from column `from` to `to`, exclusive, becomes, by a look-up each.
+    fn apply_each(&self, from: usize, to: usize, values: &[u8], into: &mut [u8])
+        requires order { from ≤ to }
+        requires to { to ≤ length values.now }
+        requires into { length values.now ≡ length into.old }
+        ensures { IsWritten (λ x. slice_index self.now (slice_index values.now x)) from to
+            into.old into.new }
+    {
+        for x in from..to {
+            into[x] = self.at(values[x]);
+        }
     }
 }
 

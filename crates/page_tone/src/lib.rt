@@ -1,6 +1,7 @@
 // Tone: the tone curve of an ink, and the ink limit (TAC) of a pixel.
 #![tactic(auto)]
 
+mod block;
 mod curve;
 mod limit;
 mod reciprocals;

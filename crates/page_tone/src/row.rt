@@ -1,11 +1,12 @@
 // The ink limit of each pixel of a row.
-ghost use Rattle.std.specs.Prelude.{◌≡◌, ℕ, ◌+◌, ◌<◌, ◌≤◌, length, slice_index};
+ghost use Rattle.std.specs.Prelude.{◌≡◌, ℕ, ◌+◌, ◌<◌, ◌≤◌, IsTrue, length, slice_index};
 ghost use Rattle.page_tone.specs.Limit.{AreLimited, HasLimited, MayLimit};
 
+use crate::block::{BLOCK, all_are};
 use crate::limit::limit_inks;
 
-/// How many pixels are tested together for one above the limit.
-const BLOCK: usize = 64;
+/// The most ink of a pixel without colour.
+const MOST_BLACK: u16 = 255;
 
 /// Limits the ink of each pixel of a row as `limit_inks` does. The four slices hold the row's values ink by
 /// ink.
@@ -46,6 +47,9 @@ fn limit_block(
     ensures { HasLimited limit from to cyan.old magenta.old yellow.old black.old
         cyan.new magenta.new yellow.new black.new }
 {
+    if limit >= MOST_BLACK && are_bare(from, to, cyan, magenta, yellow) {
+        return;
+    }
     if most_ink(from, to, cyan, magenta, yellow, black) <= limit {
         return;
     }
@@ -57,6 +61,28 @@ fn limit_block(
         yellow[x] = y;
         black[x] = k;
     }
+}
+
+/// Returns true only if the pixels from column `from` to `to`, exclusive, have no colour. They are tested only
+/// where they are a whole block.
+fn are_bare(from: usize, to: usize, cyan: &[u8], magenta: &[u8], yellow: &[u8]) -> bool
+    requires order { from ≤ to }
+    requires to { to ≤ length cyan.now }
+    requires magenta { length magenta.now ≡ length cyan.now }
+    requires yellow { length yellow.now ≡ length cyan.now }
+    ensures { IsTrue result → (x : ℕ) → from ≤ x → x < to → (slice_index cyan.now x ≡ 0)
+        × (slice_index magenta.now x ≡ 0) × (slice_index yellow.now x ≡ 0) }
+{
+    if to - from != BLOCK {
+        return false;
+    }
+    if !all_are(cyan, from, 0) {
+        return false;
+    }
+    if !all_are(magenta, from, 0) {
+        return false;
+    }
+    all_are(yellow, from, 0)
 }
 
 /// Returns the most ink, all four values together, of the pixels from column `from` to `to`, exclusive.

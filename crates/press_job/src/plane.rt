@@ -4,7 +4,6 @@ ghost use Rattle.std.specs.Prelude.{slice_index, false};
 ghost use Rattle.press_job.specs.Printing.{toned};
 
 use crate::tones::Tones;
-use page_tone::Curve;
 use pr_base::{Ink, NoMemory};
 use std::alloc::Global;
 
@@ -105,17 +104,6 @@ fn tone_values(tones: &Tones<'_>, ink: Ink, prints: bool, values: &[u8], into: &
     } else if tones.is_plain(ink) {
         into.copy_from_slice(values);
     } else {
-        apply(tones.curve(ink), values, into);
-    }
-}
-
-/// Writes values after a curve.
-fn apply(curve: &Curve, values: &[u8], into: &mut [u8])
-    requires { length values.now ≡ length into.old }
-    ensures { (x : ℕ) → x < length into.new →
-        slice_index into.new x ≡ slice_index curve.now (slice_index values.now x) }
-{
-    for x in 0..into.len() {
-        into[x] = curve.at(values[x]);
+        tones.curve(ink).apply(values, into);
     }
 }

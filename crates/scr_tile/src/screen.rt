@@ -1,5 +1,5 @@
 // Screening: a row of ink values becomes a row of packed pixels.
-ghost use Rattle.std.specs.Prelude.{◌≡◌, ℕ, ◌+◌, ◌*◌, ◌-◌, ◌/◌, ◌%◌, ◌^◌, ◌<◌, ◌≤◌, ◌==◌, length};
+ghost use Rattle.std.specs.Prelude.{◌≡◌, ℕ, ◌+◌, ◌*◌, ◌-◌, ◌/◌, ◌%◌, ◌^◌, ◌<◌, ◌≤◌, ◌==◌, IsTrue, length};
 ghost use Rattle.std.specs.Prelude.{slice_index};
 ghost use Rattle.scr_tile.specs.AnyTile.{threshold_of};
 ghost use Rattle.pr_base.specs.Bits.{bit_at, SetsBits};
@@ -123,9 +123,34 @@ fn set_blocks(
     }
 }
 
-/// Returns the packed pixels of a block: each is set where its value is above its threshold.
-#[tactic(auto, using(crate::proofs::BlockLemmas::mask_shows))]
+/// Returns the packed pixels of a block: each is set where its value is above its threshold. A block without
+/// ink, as most blocks of paper are, compares no thresholds.
+#[tactic(auto, using(crate::proofs::BlockLemmas::bare_shows))]
 fn block_of(values: &[u8], thresholds: &[u8]) -> [u8; 8]
+    requires values { length values.now ≡ BLOCK }
+    requires thresholds { length thresholds.now ≡ BLOCK }
+    ensures { (x : ℕ) → x < BLOCK →
+        bit_at result x ≡ tile_bit (slice_index values.now x) (slice_index thresholds.now x) }
+{
+    if is_bare(values) {
+        return [0; 8];
+    }
+    inked_block(values, thresholds)
+}
+
+/// Returns true only if no pixel of a block has ink.
+#[tactic(auto, using(crate::proofs::BlockLemmas::bare_by_mask))]
+fn is_bare(values: &[u8]) -> bool
+    requires { length values.now ≡ BLOCK }
+    ensures { IsTrue result → (x : ℕ) → x < BLOCK → slice_index values.now x ≡ 0 }
+{
+    let inked = u8x64::from_slice(values).simd_ne(u8x64::splat(0));
+    inked.to_bitmask() == 0
+}
+
+/// Returns the packed pixels of a block, as `block_of`, by comparing every value with its threshold.
+#[tactic(auto, using(crate::proofs::BlockLemmas::mask_shows))]
+fn inked_block(values: &[u8], thresholds: &[u8]) -> [u8; 8]
     requires values { length values.now ≡ BLOCK }
     requires thresholds { length thresholds.now ≡ BLOCK }
     ensures { (x : ℕ) → x < BLOCK →
