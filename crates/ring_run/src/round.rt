@@ -15,7 +15,7 @@ use pr_base::Deal;
 use pr_rack::Rack;
 use press_job::BandFeed;
 use ring_lanes::Writer;
-use ring_turns::{Pace, turn_all};
+use ring_turns::{Pace, Ways, turn_all};
 use std::thread::Threads;
 use std::time::Clock;
 
@@ -51,6 +51,7 @@ fn round<T: Threads + Clock + Sync, F: BandFeed + Send, D: Deal + Sync, R: Rack 
     seats: &mut [Seat<'_, '_, D>],
     racks: &mut [R],
     pace: Pace,
+    ways: &mut Ways,
 )
     requires feed { MayFeed (F.left writer.old.feed.now) writer.old.end }
     requires places { 0 < writer.old.end.ring.places }
@@ -65,7 +66,7 @@ fn round<T: Threads + Clock + Sync, F: BandFeed + Send, D: Deal + Sync, R: Rack 
 {
     tell_writer(&mut writer.end, seats);
     tell_readers(&mut writer.end, seats);
-    turn_all(rt, pace, writer, racks, seats);
+    turn_all(rt, pace, ways, writer, racks, seats);
 }
 
 /// Runs round after round, until each reader has left or has all rows, or until a site runs out of memory.
@@ -92,8 +93,9 @@ pub(crate) fn run_rounds<
     ensures seated { StaySeated (all_told R.Rack racks.old) (all_told R.Rack racks.new) seats.old seats.new }
 {
     let pace = Pace::of(rt, patience, writer.end.row_len());
+    let mut ways = Ways::new();
     while are_going(seats) {
-        round(rt, writer, seats, racks, pace);
+        round(rt, writer, seats, racks, pace, &mut ways);
     }
 }
 

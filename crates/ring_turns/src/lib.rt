@@ -9,9 +9,11 @@ mod pace;
 mod side_by_side;
 mod turn;
 mod waiting;
+mod ways;
 
 pub use ahead::Ahead;
 pub use feeding::{FeedEnd, feed_ahead, feed_turn};
 pub use pace::Pace;
 pub use side_by_side::turn_all;
 pub use turn::TurnWith;
+pub use ways::Ways;

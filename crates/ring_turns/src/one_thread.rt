@@ -5,6 +5,7 @@ ghost use Rattle.ring_turns.specs.Turns.{AreTurned, MayAllTurn};
 use crate::pace::Pace;
 use crate::turn::TurnWith;
 use crate::waiting::Vain;
+use crate::ways::{Ways, between, now};
 use std::time::Clock;
 
 /// Takes turns of each end with the value at its index, if it has one, each until it looked in vain once,
@@ -21,7 +22,7 @@ pub(crate) fn turns_in_one_thread<T: Clock, X: TurnWith<Y>, Y>(
     ensures turned { AreTurned X.turned all.old others.old all.new others.new }
 {
     let passes = passes(pace.patience, all.len());
-    let mut vain = Vain::new(all_rows(all));
+    let mut vain = Vain::new(rt, all_rows(all));
     ask_each(others, all);
     for pass in 1..passes {
         let rows = all_rows(all);
@@ -35,23 +36,72 @@ pub(crate) fn turns_in_one_thread<T: Clock, X: TurnWith<Y>, Y>(
 }
 
 /// Takes turns of one end alone, each until it looked in vain once, as many as the patience allows, or until
-/// it has no row left.
-pub(crate) fn turns_of_one<T: Clock, X: TurnWith<Y>, Y>(rt: &T, pace: Pace, one: &mut X)
+/// it has no row left. Returns how long it worked, in nanoseconds.
+pub(crate) fn turns_of_one<T: Clock, X: TurnWith<Y>, Y>(rt: &T, pace: Pace, one: &mut X) -> u64
     requires may { X.may one.old None }
     requires patience { 0 < pace.patience }
     ensures turned { X.turned one.old None one.new None }
 {
-    let mut vain = Vain::new(one.rows());
+    let mut vain = Vain::new(rt, one.rows());
     one.turn_alone(1);
     for look in 1..pace.patience {
         let rows = one.rows();
         if rows.is_none() {
-            return;
+            return vain.worked(rt);
         }
         vain.count(rows);
         vain.wait(rt, pace, look);
         one.turn_alone(1);
     }
+    vain.worked(rt)
+}
+
+/// Takes turns of one end and of all others, with the value at its index, if it has one, in this thread, as long
+/// as the ways stay in one thread, as often as the patience allows, or until the others have no row left.
+/// Nobody waits: each end deals with all rows that the turns before it left to it.
+pub(crate) fn turns_together<T: Clock, W: TurnWith<Y>, X: TurnWith<Y>, Y>(
+    rt: &T,
+    pace: Pace,
+    ways: &mut Ways,
+    one: &mut W,
+    others: &mut [Y],
+    all: &mut [X],
+)
+    requires may_one { W.may one.old None }
+    requires may { MayAllTurn X.may all.old others.old }
+    requires patience { 0 < pace.patience }
+    ensures one { W.turned one.old None one.new None }
+    ensures turned { AreTurned X.turned all.old others.old all.new others.new }
+{
+    ask_all(rt, ways, one, others, all);
+    for _pass in 1..pace.patience {
+        if all_rows(all).is_none() || !ways.stays(now(rt)) {
+            return;
+        }
+        ask_all(rt, ways, one, others, all);
+    }
+}
+
+/// Takes a turn of one end and then of all others, each until it looked in vain once, and counts how long the
+/// others took.
+fn ask_all<T: Clock, W: TurnWith<Y>, X: TurnWith<Y>, Y>(
+    rt: &T,
+    ways: &mut Ways,
+    one: &mut W,
+    others: &mut [Y],
+    all: &mut [X],
+)
+    requires may_one { W.may one.old None }
+    requires may { MayAllTurn X.may all.old others.old }
+    ensures one { W.turned one.old None one.new None }
+    ensures turned { AreTurned X.turned all.old others.old all.new others.new }
+{
+    let before = one.rows();
+    one.turn_alone(1);
+    let rows = between(before, one.rows());
+    let began = now(rt);
+    ask_each(others, all);
+    ways.count(rows, now(rt).saturating_sub(began));
 }
 
 /// Returns how many rows the ends that have rows left dealt with, together; none if no end has rows left.

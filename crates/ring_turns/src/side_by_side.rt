@@ -1,17 +1,51 @@
-// Turns that are taken side by side, in as many threads as there are processors for them.
+// Turns of all ends of a ring: side by side, in as many threads as there are processors for them, or in one
+// thread.
 ghost use Rattle.std.specs.Prelude.{◌≡◌, ◌<◌, ◌≤◌, ℕ, length};
 ghost use Rattle.std.specs.Thread.{IsSync};
 ghost use Rattle.ring_turns.specs.Turns.{AreTurned, MayAllTurn};
 
-use crate::one_thread::{turns_in_one_thread, turns_of_one};
+use crate::one_thread::{turns_in_one_thread, turns_of_one, turns_together};
 use crate::pace::Pace;
 use crate::turn::TurnWith;
+use crate::ways::{Ways, between, now};
 use std::thread::{Threads, join_mut};
 use std::time::Clock;
 
-/// Takes the turn of one, and alongside it those of all others, each with the value at its index, if it has
-/// one, in as many threads as the pace says.
-pub fn turn_all<T, W, X, Y>(rt: &T, pace: Pace, one: &mut W, others: &mut [Y], all: &mut [X])
+/// Takes the turn of one, and those of all others, each with the value at its index, if it has one: side by side,
+/// or in one thread where side by side did not pay before.
+pub fn turn_all<T, W, X, Y>(
+    rt: &T,
+    pace: Pace,
+    ways: &mut Ways,
+    one: &mut W,
+    others: &mut [Y],
+    all: &mut [X],
+)
+where
+    T: Threads + Clock + Sync,
+    W: TurnWith<Y> + Send,
+    X: TurnWith<Y> + Send,
+    Y: Send,
+    requires may_one { W.may one.old None }
+    requires may { MayAllTurn X.may all.old others.old }
+    requires patience { 0 < pace.patience }
+    ensures one { W.turned one.old None one.new None }
+    ensures turned { AreTurned X.turned all.old others.old all.new others.new }
+{
+    let began = now(rt);
+    if ways.stays(began) {
+        return turns_together(rt, pace, ways, one, others, all);
+    }
+    let before = one.rows();
+    let worked = turns_beside(rt, pace, one, others, all);
+    let ended = now(rt);
+    let waited = ended.saturating_sub(began).saturating_sub(worked);
+    ways.judge(began, ended, between(before, one.rows()), waited);
+}
+
+/// Takes the turn of one, and alongside it those of all others, each with the value at its index, if it has one,
+/// in as many threads as the pace says. Returns how long the one worked, in nanoseconds.
+fn turns_beside<T, W, X, Y>(rt: &T, pace: Pace, one: &mut W, others: &mut [Y], all: &mut [X]) -> u64
 where
     T: Threads + Clock + Sync,
     W: TurnWith<Y> + Send,
@@ -24,7 +58,7 @@ where
     ensures turned { AreTurned X.turned all.old others.old all.new others.new }
 {
     // The second closure runs in this thread, so that the buffers of the one stay in one processor's cache.
-    join_mut(
+    let (_, worked) = join_mut(
         rt,
         &mut ||
             requires sync { IsSync T.row }
@@ -45,6 +79,7 @@ where
             turns_of_one::<T, W, Y>(rt, pace, one)
         },
     );
+    worked
 }
 
 /// Takes the turn of each end with the value at its index, if it has one, in as many threads as the pace

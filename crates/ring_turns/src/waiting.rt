@@ -1,5 +1,6 @@
 // How a thread waits between its passes over the ends whose turns it takes.
 use crate::pace::Pace;
+use crate::ways::now;
 use ring_lanes::pause;
 use std::thread;
 use std::time::{Clock, Duration};
@@ -18,17 +19,32 @@ const SPINS: u32 = 64;
 /// How many pauses follow each of those looks, some eight hundred nanoseconds together.
 const SPIN_PAUSES: u32 = 4;
 
-/// How many looks were in vain since the thread's ends last dealt with a row.
+/// How many looks were in vain since the thread's ends last dealt with a row, and how long they worked.
 #[derive(Clone, Copy)]
 pub(crate) struct Vain {
     rows: Option<u64>,
     looks: u32,
+    /// When the last wait ended, or the turns began, in nanoseconds of the clock.
+    since: u64,
+    /// How long the turns took in which a row was dealt with, in nanoseconds.
+    worked: u64,
 }
 
 impl Vain {
     /// Returns a count of none, for ends that dealt with this many rows.
-    pub(crate) fn new(rows: Option<u64>) -> Vain {
-        Vain { rows, looks: 0 }
+    pub(crate) fn new<T: Clock>(rt: &T, rows: Option<u64>) -> Vain {
+        Vain {
+            rows,
+            looks: 0,
+            since: now(rt),
+            worked: 0,
+        }
+    }
+
+    /// Returns how long the turns took in which a row was dealt with, if the last one ends now.
+    pub(crate) fn worked<T: Clock>(&self, rt: &T) -> u64 {
+        self.worked
+            .saturating_add(now(rt).saturating_sub(self.since))
     }
 
     /// Counts a look, after which the ends have dealt with this many rows.
@@ -43,7 +59,10 @@ impl Vain {
 
     /// Waits after the look that was counted, the `look`-th of all. The first looks after a row are followed
     /// by long waits, and the others by short ones, so that turns in which nobody makes progress end soon.
-    pub(crate) fn wait<T: Clock>(&self, rt: &T, pace: Pace, look: u32) {
+    pub(crate) fn wait<T: Clock>(&mut self, rt: &T, pace: Pace, look: u32) {
+        if self.looks == 0 {
+            self.worked = self.worked(rt);
+        }
         let spins = if pace.sleeps { 0 } else { SPINS };
         if self.looks < spins {
             for _pause in 0..SPIN_PAUSES {
@@ -54,5 +73,6 @@ impl Vain {
         } else if pace.pauses {
             pause(look);
         }
+        self.since = now(rt);
     }
 }
