@@ -56,8 +56,8 @@ pub(crate) fn turns_of_one<T: Clock, X: TurnWith<Y>, Y>(rt: &T, pace: Pace, one:
     vain.worked(rt)
 }
 
-/// Takes turns of one end and of all others, with the value at its index, if it has one, in this thread, as long
-/// as the ways stay in one thread, as often as the patience allows, or until the others have no row left.
+/// Takes turns of one end and of all others, with the value at its index, if it has one, in this thread: as
+/// often as the patience allows, or until turns are to be side by side again or the others have no row left.
 /// Nobody waits: each end deals with all rows that the turns before it left to it.
 pub(crate) fn turns_together<T: Clock, W: TurnWith<Y>, X: TurnWith<Y>, Y>(
     rt: &T,

@@ -11,8 +11,8 @@ use crate::ways::{Ways, between, now};
 use std::thread::{Threads, join_mut};
 use std::time::Clock;
 
-/// Takes the turn of one, and those of all others, each with the value at its index, if it has one: side by side,
-/// or in one thread where side by side did not pay before.
+/// Takes the turn of one, and those of all others, each with the value at its index, if it has one: side by
+/// side, or in one thread where side by side did not pay before.
 pub fn turn_all<T, W, X, Y>(
     rt: &T,
     pace: Pace,
@@ -40,11 +40,11 @@ where
     let worked = turns_beside(rt, pace, one, others, all);
     let ended = now(rt);
     let waited = ended.saturating_sub(began).saturating_sub(worked);
-    ways.judge(began, ended, between(before, one.rows()), waited);
+    ways.judge(ended, between(before, one.rows()), waited);
 }
 
-/// Takes the turn of one, and alongside it those of all others, each with the value at its index, if it has one,
-/// in as many threads as the pace says. Returns how long the one worked, in nanoseconds.
+/// Takes the turn of one, and alongside it those of all others, each with the value at its index, if it has
+/// one, in as many threads as the pace says. Returns how long the one worked, in nanoseconds.
 fn turns_beside<T, W, X, Y>(rt: &T, pace: Pace, one: &mut W, others: &mut [Y], all: &mut [X]) -> u64
 where
     T: Threads + Clock + Sync,

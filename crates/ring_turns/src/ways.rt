@@ -1,31 +1,31 @@
-// Whether the turns of the next round are taken side by side or all in one thread, by what a run has measured.
+// Whether the turns of the next round are taken side by side or all in one thread, by what a run measured.
 use std::time::Clock;
 
 /// How long turns stay in one thread at least, in nanoseconds.
 const LEAST_STAY: u64 = 10_000_000;
 
-/// How many times as long as a round side by side that did not pay the turns then stay in one thread, at first,
-/// and at most: each further such round doubles it.
+/// How many times as long as was waited in a round that did not pay the turns then stay in one thread. Each
+/// further such round doubles it, up to the most.
 const FIRST_TIMES: u64 = 4;
 
 const MOST_TIMES: u64 = 64;
 
-/// How long turns side by side go on paying before the work of one thread is measured again, in nanoseconds.
-const MEASURE_EVERY: u64 = 500_000_000;
+/// How long the others' work stays known while turns are side by side, in nanoseconds. Then it is measured anew.
+const KNOWN_FOR: u64 = 500_000_000;
 
-/// What a run has measured of the two ways to take turns. Side by side pays if the thread of the one waited for
-/// the others no longer than their work would have taken there. The first round is side by side.
+/// What a run measured of the two ways to take turns. A round side by side pays if the thread of the one
+/// waited for the others no longer than their work takes in that thread. Where other programs keep the
+/// processors busy, a thread waits for its next slice, which is longer than the work of a whole ring. The
+/// first round is side by side.
 #[derive(Clone, Copy)]
 pub struct Ways {
-    /// Until when turns are taken in one thread, in nanoseconds of the clock.
+    /// When turns in one thread end, or last ended, in nanoseconds of the clock.
     until: u64,
-    /// When the work in one thread was last measured.
-    measured: u64,
-    /// How many times as long as the next round that does not pay.
+    /// How many times as long as is waited in the next round that does not pay.
     times: u64,
-    /// How many rows were dealt with in one thread since turns were last side by side.
+    /// How many rows the one dealt with in one thread since turns were last side by side.
     rows: u64,
-    /// How long the others took for them, in nanoseconds.
+    /// How long the others took for these rows, in nanoseconds.
     work: u64,
 }
 
@@ -34,7 +34,6 @@ impl Ways {
     pub fn new() -> Ways {
         Ways {
             until: 0,
-            measured: 0,
             times: FIRST_TIMES,
             rows: 0,
             work: 0,
@@ -52,36 +51,38 @@ impl Ways {
         self.work = self.work.saturating_add(work);
     }
 
-    /// Learns from a round side by side: from when to when it was, how many rows it dealt with, and how long the
-    /// thread of the one waited.
-    pub(crate) fn judge(&mut self, began: u64, ended: u64, rows: u64, waited: u64) {
-        let pays = waited.saturating_mul(self.rows) < self.work.saturating_mul(rows);
-        let stay = if pays {
-            self.times = FIRST_TIMES;
-            if ended.saturating_sub(self.measured) < MEASURE_EVERY {
-                return;
-            }
-            LEAST_STAY
-        } else {
-            let stay = ended.saturating_sub(began).saturating_mul(self.times);
+    /// Learns from a round side by side that ended at this time: how many rows it dealt with, and how long
+    /// the thread of the one waited.
+    pub(crate) fn judge(&mut self, ended: u64, rows: u64, waited: u64) {
+        if self.rows > 0 && waited.saturating_mul(self.rows) > self.work.saturating_mul(rows) {
+            let stay = waited.saturating_mul(self.times).max(LEAST_STAY);
             self.times = self.times.saturating_mul(2).min(MOST_TIMES);
-            stay.max(LEAST_STAY)
-        };
-        self.until = ended.saturating_add(stay);
-        self.measured = self.until;
+            self.stay(ended, stay);
+            return;
+        }
+        self.times = FIRST_TIMES;
+        if self.rows == 0 || ended.saturating_sub(self.until) > KNOWN_FOR {
+            self.stay(ended, LEAST_STAY);
+        }
+    }
+
+    /// Takes turns in one thread from this time on, for so long, and measures the others' work anew.
+    fn stay(&mut self, now: u64, long: u64) {
+        self.until = now.saturating_add(long);
         self.rows = 0;
         self.work = 0;
     }
 }
 
-/// Returns the time of a clock in nanoseconds, or 0 if it can't be read.
+/// Returns the time of a clock in nanoseconds. If it can't be read, the time is past all others, so that
+/// turns are always side by side.
 pub(crate) fn now<T: Clock>(rt: &T) -> u64 {
     match rt.monotonic() {
         Ok(time) => time
             .as_secs()
             .wrapping_mul(1_000_000_000)
             .wrapping_add(u64::from(time.subsec_nanos())),
-        Err(_) => 0,
+        Err(_) => u64::MAX,
     }
 }
 
