@@ -10,7 +10,8 @@ const FIRST_TIMES: u64 = 4;
 
 const MOST_TIMES: u64 = 64;
 
-/// How long the others' work stays known while turns are side by side, in nanoseconds. Then it is measured anew.
+/// How long the others' work stays known while turns are side by side, in nanoseconds. Then it is measured
+/// anew.
 const KNOWN_FOR: u64 = 500_000_000;
 
 /// What a run measured of the two ways to take turns. A round side by side pays if the thread of the one
