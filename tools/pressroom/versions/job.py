@@ -10,6 +10,7 @@ import time
 
 from pressroom.base import disk, runs
 from pressroom.base.console import fault_of
+from pressroom.plans.ring import ring_of
 from pressroom.versions.version import REPORT
 
 ALL_READY, SOME_NOT_READY, CANT_BEGIN, PLAN_REFUSED, FILE_REFUSED, OTHER_WORKS = range(6)
@@ -76,6 +77,7 @@ class Job:
         path = self.plan_file(plan, sites)
         words = ["keys"] if keys else ["run"]
         words += [path, self.version.files, self.version.path] + [str(keys)] * bool(keys)
+        words.append(str(ring_of(plan.value, len(sites) + bool(keys))))
         with self.seconds.of("run"):
             return runs.call([self.program, *words], self.done.look)
 

@@ -21,6 +21,7 @@ from pressroom.base import disk, runs
 from pressroom.base.ask import HERE, program_path
 from pressroom.base.console import Console, Missing, fault_of, need
 from pressroom.plans.plan_reader import plans_of
+from pressroom.plans.ring import ring_of
 from pressroom.versions import version
 from pressroom.versions.job import CANT_BEGIN, OTHER_WORKS, Job, Refused
 
@@ -99,6 +100,7 @@ def run_parts(job, plan, sites, engine):
         "PLATEROOM": os.path.abspath(shutil.which(job.program)),
         "TOOLS": os.path.join(HERE, ".."),
         "PARTS": os.path.abspath(job.version.file(f"{plan.name}.parts")),
+        "RING": str(ring_of(plan.value, len(sites))),
     }
     with job.seconds.of("run"):
         return runs.call([os.path.join(queue, f"{engine}.sh"), *words], job.done.look, environment)
