@@ -99,6 +99,7 @@ def refused():
     for name, data in cut.items():
         found[f"JPEG in {name}"] = pictured(data, spaces[name]), "damaged", f"the picture I of the page{end}"
     places = {
+        "inline": "an inline picture of the page",
         "form": "the picture I of the form F", "soft mask": "the mask of the picture O of the page",
         "luminosity mask": "the picture I of a soft mask of the page",
     }  # fmt: skip

@@ -31,11 +31,12 @@ from pressroom.reading.objects import (
     items,
     name,
     number,
+    readable,
 )
 from pressroom.reading.optional import Optional
 from pressroom.reading.resources import Resources
 from pressroom.reading.spaces import Blacks
-from pressroom.reading.walk import Walk, readable
+from pressroom.reading.walk import Walk
 
 sys.pycache_prefix = None
 
