@@ -133,6 +133,10 @@ def accepted():
     grey = jpeg("L")
     return {
         "zeros after its end": Sheet(PLAIN, extra=bytes(2000)),
+        "metadata": Sheet(
+            {"black": (f"0 0 0 rg {FILL}", BLACK)}, {"data": ("/Type /Metadata /Subtype /XML", b"<x/>")},
+            root="/Metadata {data}",
+        ),
         "a unit of 1": Sheet(PLAIN, keys="/UserUnit 1"),
         "a unit of 2": Sheet(PLAIN, keys="/UserUnit 2", unit=2),
         "a unit of a half": Sheet(PLAIN, keys="/UserUnit .5", unit=0.5),

@@ -180,7 +180,11 @@ def read(path: str, blacks: Blacks) -> Read:
         if found["edited"]:
             if found["count"] > 1:
                 del pdf.pages[1:]
-            pdf.save("edited.pdf", compress_streams=False, stream_decode_level=pikepdf.StreamDecodeLevel.none)
+            plain = pikepdf.StreamDecodeLevel.none
+            # The part of pikepdf that changes metadata isn't loaded.
+            pdf.save(
+                "edited.pdf", compress_streams=False, fix_metadata_version=False, stream_decode_level=plain
+            )
     return found
 
 
