@@ -21,6 +21,7 @@ import time
 sys.dont_write_bytecode = True
 from intake_corpus import see_corpus
 from intake_ink import see_ink
+from intake_inks import see_bands, see_inks
 from intake_pages import HOUSE, Pages, fields, intake, missing_program, plates_of
 from intake_refused import see_words
 from intake_strips import see_strips
@@ -482,6 +483,9 @@ EDITS = (
     ("[sites.OSLO]", "[curves]\nK = [[0, 0], [0.1, 5], [100, 100]]\n[sites.OSLO]", r"line 13: curves\.K: .* isn't a list"),
     ("[sites.OSLO]", "[[marks]]\ninks = \"K\"\nat = [1, 90]\nsize = [1, 1]\n[sites.OSLO]", r"line 12: marks\.0: leaves"),
     ("[sites.OSLO]", "[press.GOSS]\n[sites.OSLO]\npress = \"KBA\"", r"line 14: sites\.OSLO\.press: 'KBA' isn't 'GOSS'"),
+    ("[sites.OSLO]", "[spot]\nnames = []\n[sites.OSLO]", r"^\S+ \S+ \S+ line 12: spot\.colour: is missing\n.* line 13: spot\.names: \[\] isn't a list of 1 to 32 names"),
+    ("[sites.OSLO]", '[spot]\naliases = "A"\n[sites.OSLO]', r"line 13: spot\.aliases: 'A' isn't a table"),
+    ("[sites.OSLO]", '[spot]\ncolour = "#123456"\n[sites.OSLO]', r"line 12: spot\.separation: is missing"),
     ("[sites.OSLO]", "[sites.OSLO", r"not TOML: .*line 12"),
     ('edition = "E1"', 'edition = "E1"\nblank = ["A9"]', r"line 2: blank: 'A9' isn't a page of this house"),
     ('edition = "E1"', 'edition = "E1"\nnames = "{page}"', r"line 2: names: '\{page\}' isn't a pattern"),
@@ -576,6 +580,8 @@ def main():
             (see_colours, (results, program, folder)),
             (see_ink, (results, folder)),
             (see_words, (results, folder)),
+            (see_inks, (results, folder)),
+            (see_bands, (results, program, folder)),
             (see_told, (results, folder)),
             (see_tiffs, (results, program, folder)),
             (see_changes, (results, program, folder)),

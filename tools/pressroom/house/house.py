@@ -22,6 +22,7 @@ from pressroom.house.house_keys import (
     HouseFault,
     Keys,
     Wrong,
+    aliases_of,
     cmyk_profile,
     curve,
     matching,
@@ -29,6 +30,7 @@ from pressroom.house.house_keys import (
     numbers,
     one_of,
     pattern,
+    separations,
     whole,
     wrong,
 )
@@ -86,10 +88,14 @@ class Site:
 
 @dataclass(frozen=True)
 class Spot:
-    """The separation that is printed as S, and its colour on paper as red, green and blue of 0 to 255."""
+    """The separation that is printed as S, its colour on paper as red, green and blue of 0 to 255, the names
+    that it has in PDFs, and pairs of a separation's name in PDFs and the separation that it means.
+    """
 
     separation: str
     colour: tuple
+    names: tuple = ()
+    aliases: tuple = ()
 
 
 @dataclass(frozen=True)
@@ -259,10 +265,15 @@ class Reading:
         if "spot" not in self.keys.table:
             return None
         keys = self.keys.inside("spot")
-        separation = keys.take("separation", SEPARATION)
+        names = keys.take("names", separations, None)
+        first = names[0] if names else None if "names" in keys.table else REQUIRED
+        separation = keys.take("separation", SEPARATION, first)
         colour = keys.take("colour", COLOUR)
+        aliases = keys.take("aliases", aliases_of, ())
         keys.end()
-        return Spot(separation, tuple(bytes.fromhex(colour[1:]))) if separation and colour else None
+        if not (separation and colour) or aliases is None:
+            return None
+        return Spot(separation, tuple(bytes.fromhex(colour[1:])), (separation, *(names or ())), aliases)
 
     def tone(self, keys, dpi, base):
         """Reads the limit, screens, curves and marks of a table. The base provides what the table lacks."""

@@ -85,6 +85,20 @@ def pattern(value):
     return value
 
 
+def separations(value):
+    """Reads a list of names of separations."""
+    if not isinstance(value, list) or not 1 <= len(value) <= 32:
+        raise wrong(value, "a list of 1 to 32 names of separations")
+    return tuple(SEPARATION(name) for name in value)
+
+
+def aliases_of(value):
+    """Reads a table of names of separations, each with the name of the separation that it means."""
+    if not isinstance(value, dict) or len(value) > 256:
+        raise wrong(value, "a table of at most 256 names of separations")
+    return tuple((SEPARATION(name), SEPARATION(meant)) for name, meant in value.items())
+
+
 def curve(value):
     """Reads a curve: points of percent and percent, each to the right of the one before, also in 255ths."""
     words = "a list of 2 to 32 points [percent, percent] from 0 to 100, each to the right of the one before"

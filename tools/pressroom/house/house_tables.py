@@ -22,7 +22,9 @@ def table(path, name):
 def spot_of(path):
     """Returns the spot's name, and its colour as red, green and blue. Either is None if absent."""
     spot = table(path, "spot")
-    name, colour = spot.get("separation"), spot.get("colour")
+    names = spot.get("names")
+    first = names[0] if isinstance(names, list) and names else None
+    name, colour = spot.get("separation", first), spot.get("colour")
     if name is not None and not (isinstance(name, str) and name):
         raise Broken(f"{path}: spot.separation isn't a name")
     if colour is not None:

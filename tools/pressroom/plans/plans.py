@@ -1,12 +1,13 @@
 """Makes the plan of each press from the house file and the pages that were made."""
 import json
 import os
+from typing import Any
 
 from pressroom.house import tile
 from pressroom.house.house import INKS, LARGEST_TILE, Place
 
-# The most bytes that plateroom loads: of a plan's files together, and of one file.
-MOST_BYTES, MOST_FILE = 3_221_225_472, 536_870_912
+# The most bytes of a plan's files together that plateroom loads.
+MOST_BYTES = 3_221_225_472
 BLANK = {"name": "blank", "inks": "K", "layers": []}
 
 
@@ -117,6 +118,22 @@ def plan_of(house, press, pages):
 def files_of(plan):
     """Returns the names of all files of a plan."""
     return {layer["file"] for page in plan["pages"] for layer in page["layers"]}
+
+
+def largest_part(plan: dict[str, Any], sizes: dict[str, int]) -> tuple[str, str, int]:
+    """Returns the section and site whose files have the most bytes together, and how many. `sizes` has the
+    bytes of each file. No part of a plan is smaller than a section for one site.
+    """
+    files = {page["name"]: {layer["file"] for layer in page["layers"]} for page in plan["pages"]}
+    zones = {zone["name"]: zone["replace"] for zone in plan["zones"]}
+    found = []
+    for site in plan["sites"]:
+        own = {(item["section"], item["page"]): item["with"] for item in zones.get(site.get("zone"), ())}
+        for section in plan["sections"]:
+            names = {own.get((section["name"], page), name) for page, name in enumerate(section["pages"], 1)}
+            printed = {file for name in names for file in files[name]}
+            found.append((section["name"], site["name"], sum(sizes[file] for file in printed)))
+    return max(found, key=lambda part: part[2])
 
 
 def write(path, value):

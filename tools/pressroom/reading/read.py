@@ -58,7 +58,10 @@ class Read(TypedDict):
     lab: bool
     white: bool
     blending: bool
-    strips: bool
+    blends: bool
+    overprints: bool
+    spots: list[str]
+    transfers: bool
     fonts: list[str]
     edited: bool
 
@@ -93,7 +96,10 @@ class Page:
             "lab": lab,
             "white": self.walk.colours.white,
             "blending": facts.rgb_groups,
-            "strips": not facts.blends and not facts.overprints and len(facts.spots) < 2,
+            "blends": facts.blends,
+            "overprints": facts.overprints,
+            "spots": sorted(word[1:].decode("latin-1") for word in facts.spots),
+            "transfers": facts.transfers,
             "fonts": sorted(self.walk.fonts),
             "edited": self.changed,
         }
