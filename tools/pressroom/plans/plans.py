@@ -56,8 +56,9 @@ def marks(house, press):
     """Returns a press's marks in the plan's form, each at least one pixel wide and high."""
     found = []
     for mark in press.marks:
-        x, y = house.pixels(mark.x), house.pixels(mark.y)
-        right, bottom = house.pixels(mark.x + mark.width), house.pixels(mark.y + mark.height)
+        (left, top), (width, height) = mark.at, mark.size
+        x, y = house.pixels(left), house.pixels(top)
+        right, bottom = house.pixels(left + width), house.pixels(top + height)
         found.append({"inks": mark.inks, "x": x, "y": y, "w": max(1, right - x), "h": max(1, bottom - y)})
     return found
 

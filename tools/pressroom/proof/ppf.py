@@ -19,6 +19,7 @@ import sys
 
 from pressroom import __version__
 from pressroom.base.console import Console, Missing
+from pressroom.house.keys import HouseFault
 from pressroom.proof import proof
 from pressroom.tiff.tiff import Broken
 
@@ -68,8 +69,8 @@ def main():
         from pressroom.proof.ppf_sheets import Sheets
 
         return 1 if Sheets(words, console).make() else 0
-    except (Missing, Broken) as error:
-        console.leave(2, error)
+    except (Missing, Broken, HouseFault) as error:
+        console.leave(2, str(error))
     except OSError as error:
         console.leave(2, f"{error.filename or words.out}: {error.strerror or error}")
     except KeyboardInterrupt:

@@ -5,7 +5,7 @@ from concurrent.futures import ThreadPoolExecutor
 
 import numpy
 
-from pressroom.house.house_tables import press_keys, spot_of
+from pressroom.house.house import read_proof
 from pressroom.proof import key_table, ppf_file
 from pressroom.proof.counts import Counts
 from pressroom.proof.plates import INK_NAMES, content_of, open_plate, sites_of
@@ -40,8 +40,8 @@ class Sheets:
             raise Broken(f"{words.plates}: {error.strerror}") from None
         if not self.sites:
             raise Broken(f"{words.plates}: no plates")
-        self.press = press_keys(words.house) if words.house else None
-        spot = spot_of(words.house)[0] if words.house else None
+        spot, _, keys = read_proof(words.house) if words.house else (None, None, None)
+        self.press = (keys.width, keys.offset) if keys else None
         self.names = INK_NAMES | ({"S": spot} if spot else {})
         self.rows = {count: [] for count in words.keys}
 

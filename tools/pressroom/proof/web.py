@@ -19,6 +19,7 @@ import tempfile
 
 from pressroom import __version__
 from pressroom.base.console import Console, Missing, need
+from pressroom.house.keys import HouseFault
 from pressroom.proof import proof
 from pressroom.proof.web_tiles import Failed
 from pressroom.tiff.tiff import Broken
@@ -157,8 +158,8 @@ def main():
     try:
         need_all()
         return 1 if make(words, console) else 0
-    except (Missing, Broken, Failed) as error:
-        console.leave(2, error)
+    except (Missing, Broken, Failed, HouseFault) as error:
+        console.leave(2, str(error))
     except OSError as error:
         console.leave(2, f"{error.filename or words.out}: {error.strerror or error}")
     except KeyboardInterrupt:

@@ -4,7 +4,7 @@ import json
 import os
 from concurrent.futures import ThreadPoolExecutor
 
-from pressroom.house.house_tables import spot_of
+from pressroom.house.house import read_proof
 from pressroom.plans import web_plan
 from pressroom.proof import web_tiles
 from pressroom.proof.counts import Counts
@@ -77,7 +77,7 @@ class Proof:
 
     def set_spot(self):
         """Gives the spot the house's name and colour; --spot overrides the house file."""
-        name, colour = spot_of(self.words.house) if self.words.house else (None, None)
+        name, colour, _ = read_proof(self.words.house) if self.words.house else (None, None, None)
         spot = self.inks["S"]
         spot["name"] = name or spot["name"]
         spot["colour"] = self.words.spot or colour or spot["colour"]
