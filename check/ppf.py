@@ -265,7 +265,7 @@ def see_damage(results, folder, plates):
     shutil.copyfile(
         os.path.join(hurt, "OSLO", "E1-A-001-K.tif"), os.path.join(hurt, "OSLO", "E1-A-002-K.tif.part")
     )
-    status, said, _ = tool(hurt, out, "--keys", 4)
+    status, _, said = tool(hurt, out, "--keys", 4)
     results.see(status == 1 and f"fault: {path}: cut off" in said, f"a damaged plate: {status}, {said}")
     names = [
         "E1-A-001-BERGEN.ppf",

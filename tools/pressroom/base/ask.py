@@ -2,17 +2,11 @@
 import os
 import shutil
 import subprocess
-import sys
 import tempfile
-from typing import NoReturn
+
+from pressroom.base.faults import Fault
 
 HERE = os.path.dirname(os.path.dirname(os.path.abspath(__file__)))
-
-
-def leave(status: int, line: str) -> NoReturn:
-    """Ends the tool with this status, and prints its name and the line to standard error."""
-    print(f"{os.path.basename(sys.argv[0])}: {line}", file=sys.stderr)
-    sys.exit(status)
 
 
 def program_path(given: str | None) -> str:
@@ -20,7 +14,7 @@ def program_path(given: str | None) -> str:
     built = os.path.join(HERE, "..", "..", "crates", "plateroom", "out", "plateroom")
     path = given or os.environ.get("PLATEROOM") or shutil.which("plateroom") or built
     if shutil.which(path) is None:
-        leave(2, f"no program at {os.path.normpath(path)}: name it with --program or in PLATEROOM")
+        raise Fault(f"no program at {os.path.normpath(path)}: name it with --program or in PLATEROOM")
     return path
 
 
@@ -40,8 +34,10 @@ class Asked:
         try:
             answer = subprocess.run([self.program, "run", self.plan, files, out], capture_output=True)
         except OSError as error:
-            leave(2, f"{self.program} can't be started: {error.strerror}")
+            raise Fault(f"{self.program} can't be started: {error.strerror}") from None
         line = answer.stderr.decode("utf-8", "replace").strip()
         if answer.returncode not in (0, 1, 3, 4, 5) or bool(line) == (answer.returncode < 2):
-            leave(2, f"{self.program} ended with status {answer.returncode} and said {line or 'nothing'!r}")
+            raise Fault(
+                f"{self.program} ended with status {answer.returncode} and said {line or 'nothing'!r}"
+            )
         return (line, answer.returncode) if line else None

@@ -1,15 +1,21 @@
 """Reports faults, notes and progress to the user of a command.
 
-Text for people goes to standard error, results to standard output. With `--json` each event is one JSON object on a
+Messages and faults go to standard error, results to standard output. With `--json` each event is one JSON object on a
 line of standard output, with the key `event` first, and no bar is shown.
 """
+import importlib.util
 import json
 import shutil
 import sys
 from collections.abc import Iterable
 from typing import Any, NoReturn, Protocol, TypeVar
 
+from pressroom.base.faults import Fault
+
 T = TypeVar("T")
+# The events that are messages, and those whose text is printed without their name.
+MESSAGES = {"fault", "note", "retry"}
+BARE = {"done", "refused", "tile", "part"}
 # The Debian package of each program.
 PACKAGES = {
     "gs": "ghostscript",
@@ -27,7 +33,7 @@ PACKAGES = {
 }
 
 
-class Missing(Exception):
+class Missing(Fault):
     """A program or library that the command needs isn't installed. The text names its Debian package."""
 
 
@@ -37,6 +43,14 @@ def need(*programs: str) -> None:
         if shutil.which(program) is None:
             package = PACKAGES.get(program, program)
             raise Missing(f"{program} is not installed: apt-get install {package}")
+
+
+def need_libraries(*names: str) -> None:
+    """Raises Missing, with the package's name, for the first of these libraries of Python that isn't installed."""
+    for name in names:
+        if importlib.util.find_spec(name) is None:
+            package = {"PIL": "python3-pil"}.get(name, f"python3-{name}")
+            raise Missing(f"{name} is not installed: apt-get install {package}")
 
 
 def fault_of(error: OSError) -> str:
@@ -73,16 +87,16 @@ class NoBar:
 class Console:
     """Writes events as text or as JSON lines, and counts them by kind."""
 
-    def __init__(self, name: str, as_json: bool = False) -> None:
-        self.name = name
-        self.as_json = as_json
+    def __init__(self, name: str, as_json: bool = False, report: bool = False) -> None:
+        """`report` is for a command whose result is faults and notes: they go to standard output."""
+        self.name, self.as_json, self.report = name, as_json, report
         self.counts: dict[str, int] = {}
         self.fields: dict[str, object] = {}
         self.drawn: Any = None
 
     def about(self, **fields: object) -> "Console":
         """Returns a console that shares this one's counts and adds these fields to its events."""
-        other = Console(self.name, self.as_json)
+        other = Console(self.name, self.as_json, self.report)
         other.counts, other.fields = self.counts, self.fields | fields
         return other
 
@@ -97,7 +111,8 @@ class Console:
         else:
             if self.drawn is not None:
                 self.drawn.clear()
-            print(one_line(text) if event == "done" else f"{event}: {one_line(text)}", flush=True)
+            stream = sys.stderr if event in MESSAGES and not self.report else sys.stdout
+            print(one_line(text) if event in BARE else f"{event}: {one_line(text)}", file=stream, flush=True)
 
     def bar(self, items: Iterable[T], words: str, total: int | None = None) -> Iterable[T]:
         """Returns the items, with a progress bar if tqdm is installed and they take more than two seconds."""
@@ -119,6 +134,13 @@ class Console:
         hidden = True if self.as_json else None
         gauge: Gauge = tqdm(desc=words, total=total, delay=2, leave=False, disable=hidden)
         return gauge
+
+    def refuse(self, line: str) -> None:
+        """Passes on the program's own line on a plan, on standard error."""
+        if self.as_json:
+            self.tell("refused", line)
+        else:
+            print(line, file=sys.stderr)
 
     def leave(self, status: int, text: str) -> NoReturn:
         """Prints this text after the command's name on standard error, and exits with this status."""

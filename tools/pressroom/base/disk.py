@@ -46,6 +46,18 @@ def write_whole(path: str, data: bytes) -> None:
     sync_folder(os.path.dirname(path))
 
 
+def write_changed(path: str, data: bytes) -> bool:
+    """Writes a file, unless it has these bytes: what is made of it stays newer. Returns whether it wrote."""
+    try:
+        with open(path, "rb") as file:
+            if file.read() == data:
+                return False
+    except FileNotFoundError:
+        pass
+    write_whole(path, data)
+    return True
+
+
 def copy_whole(source: str, target: str) -> None:
     """Copies a file with its times: the name has its old bytes or all of the new ones at any moment."""
     part = part_of(target)

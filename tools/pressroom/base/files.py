@@ -3,8 +3,10 @@ that neither a FIFO nor a device stops a command, nor a large file takes its mem
 import os
 import stat
 
+from pressroom.base.faults import Fault
 
-class Unreadable(Exception):
+
+class Unreadable(Fault):
     """A file can't be read. The text names the file and the reason."""
 
     def __init__(self, path: str, why: str) -> None:

@@ -13,7 +13,7 @@ from typing import Any
 from pressroom.base.files import Unreadable, read_file
 from pressroom.house import tile
 from pressroom.house.forms import NAME, TARGET, Form, Wrong, cmyk_profile, one_of, wrong
-from pressroom.house.keys import REQUIRED, Faults, HouseFault, Key, Keys, Path, keys_of
+from pressroom.house.house_keys import REQUIRED, Faults, HouseFault, Key, Keys, Path, keys_of
 from pressroom.house.records import (
     INKS,
     LARGEST_TILE,
@@ -70,9 +70,9 @@ def read_keys(path: str) -> Keys:
 
 def read_house(path: str) -> House:
     """Reads the house file at this path."""
-    reading = Reading(path, read_keys(path))
-    house = reading.house()
-    reading.faults.end()
+    keys = read_keys(path)
+    house = Reading(path, keys, keys.faults).house()
+    keys.faults.end()
     assert house is not None
     return house
 
@@ -109,8 +109,8 @@ def read_proof(path: str) -> tuple[str | None, tuple[int, int, int] | None, InkK
 class Reading:
     """Reads the tables of a house file."""
 
-    def __init__(self, path: str, keys: Keys) -> None:
-        self.path, self.keys, self.faults = path, keys, keys.faults
+    def __init__(self, path: str, keys: Keys, faults: Faults) -> None:
+        self.path, self.keys, self.faults = path, keys, faults
 
     def house(self) -> House | None:
         """Returns the house, or None if there are faults."""
@@ -257,4 +257,6 @@ class Reading:
                 if house.pixels(x + wide) > width or house.pixels(y + high) > height:
                     at: Path = ("press", press.name) if own else ()
                     words = f"leaves the plate, which is {width * 25.4 / house.dpi:.1f} mm wide and "
-                    self.faults.add(at + ("marks", number), words + f"{height * 25.4 / house.dpi:.1f} mm high")
+                    self.faults.add(
+                        at + ("marks", number), words + f"{height * 25.4 / house.dpi:.1f} mm high"
+                    )

@@ -27,7 +27,7 @@ from pressroom.house.forms import (
     one_of,
     whole,
 )
-from pressroom.house.keys import REQUIRED, Key, key, keys_of
+from pressroom.house.house_keys import REQUIRED, Key, key, keys_of
 
 INKS = "CMYKS"
 NAMED_SCREENS = ("bayer2", "bayer4", "bayer8", "bayer16", "diffuse")

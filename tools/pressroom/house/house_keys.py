@@ -9,6 +9,7 @@ from collections.abc import Iterator, Mapping
 from dataclasses import dataclass
 from typing import Any, TypeVar
 
+from pressroom.base.faults import Fault
 from pressroom.house.forms import Form, Wrong, wrong
 from pressroom.house.toml_lines import KeyLines
 
@@ -18,7 +19,7 @@ Path = tuple[str | int, ...]
 REQUIRED: Any = object()
 
 
-class HouseFault(Exception):
+class HouseFault(Fault):
     """The faults of a house file. `lines` has each fault with its file, line and key."""
 
     def __init__(self, lines: list[str]) -> None:
