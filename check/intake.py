@@ -24,7 +24,8 @@ from intake_ink import see_ink
 from intake_pages import HOUSE, Pages, fields, intake, missing_program, plates_of
 from intake_refused import see_words
 from intake_strips import see_strips
-from newspaper import NEWSPAPER, TOP, Results, missing
+from newspaper import NEWSPAPER, TOP, missing
+from trial import Count
 
 sys.path.insert(0, NEWSPAPER)
 from pdf import Pdf
@@ -541,8 +542,8 @@ def main():
     lacking = missing("PIL", "numpy", "pikepdf") or missing_program("gs", "qpdf", "pdftoppm", "tiffcp", "prlimit")
     if lacking:
         print(f"skipped: {lacking} isn't installed")
-        Results().end()
-    program, results = os.path.abspath(sys.argv[1]), Results()
+        sys.exit(Count().end())
+    program, results = os.path.abspath(sys.argv[1]), Count()
     with tempfile.TemporaryDirectory(prefix="plateroom-intake-") as folder:
         for part, words in (
             (see_houses, (results, folder)),
@@ -562,7 +563,7 @@ def main():
             part(*words)
             passed, seconds = results.passed - before, time.monotonic() - begun
             print(f"{part.__name__[4:]}: {passed} passed, {seconds:.0f} s", flush=True)
-    results.end()
+    sys.exit(results.end())
 
 
 if __name__ == "__main__":

@@ -17,7 +17,8 @@ import sys
 import tempfile
 
 sys.dont_write_bytecode = True
-from newspaper import Results, missing
+from newspaper import missing
+from trial import Count
 from two_sites import EXAMPLES, TOP, edition, plates_of, run
 
 try:
@@ -303,10 +304,10 @@ def see_refusals(results, folder, plates):
 def main():
     if len(sys.argv) != 2:
         sys.exit(__doc__.splitlines()[2].strip())
-    results, lacks = Results(), missing("numpy", "PIL")
+    results, lacks = Count(), missing("numpy", "PIL")
     if lacks:
         print(f"skipped: ink key files ({lacks} isn't installed)")
-        results.end()
+        sys.exit(results.end())
     if not shutil.which("gs"):
         print("skipped: the pictures of previews (Ghostscript isn't installed)")
     with tempfile.TemporaryDirectory(prefix="plateroom-ppf-") as folder:
@@ -317,7 +318,7 @@ def main():
         see_tables(results, sys.argv[1], folder, *plans[1200])
         see_damage(results, folder, plans[1200][1])
         see_refusals(results, folder, plans[1200][1])
-    results.end()
+    sys.exit(results.end())
 
 
 if __name__ == "__main__":

@@ -51,6 +51,9 @@ man_pages() {
     install -d "$section"
     /usr/bin/python3 package/page.py "$page" "$version" | scdoc | gzip -9nc > "$section/$name.gz"
   done
+  for name in $(/usr/bin/python3 package/table.py commands); do
+    /usr/bin/python3 package/table.py man "$name" "$version" | scdoc | gzip -9nc > "$root/usr/share/man/man1/pressroom-$name.1.gz"
+  done
 }
 
 documents() {
@@ -64,12 +67,22 @@ documents() {
   done | gzip -9nc > "$docs/changelog.Debian.gz"
 }
 
+# Writes pressroom's completion of a shell below /usr/share.
+completion_of() { # SHELL PATH
+  install -d "$root/usr/share/$(dirname "$2")"
+  /usr/bin/python3 package/table.py "$1" > "$root/usr/share/$2"
+  chmod 644 "$root/usr/share/$2"
+}
+
 # Units are installed, and neither enabled nor started.
 integration() {
   local file name
   for file in package/completion/*; do
     install -D -m 644 "$file" "$root/usr/share/bash-completion/completions/$(basename "$file")"
   done
+  completion_of bash bash-completion/completions/pressroom
+  completion_of zsh zsh/vendor-completions/_pressroom
+  completion_of fish fish/vendor_completions.d/pressroom.fish
   git ls-files -z -- package/systemd | while read -r -d '' file; do
     name=$(basename "$file")
     case $name in
