@@ -118,7 +118,10 @@ def main() -> int:
     if answer and answer[1] == 3:
         return refuse_plan(console, answer[0], text)
     twice: list[str] = []
-    plan = json_of(text, twice)
+    try:
+        plan = json_of(text, twice)
+    except ValueError as error:
+        console.leave(2, f"{words.plan}: the program accepts what isn't JSON: {error}")
     if not is_formed(plan):
         console.leave(2, f"{words.plan}: the program accepts a plan of another form than this command knows")
     found, notes = report(console, plan, twice, words.files, asked, words.quiet)

@@ -27,16 +27,6 @@ from pressroom.versions.late import take_and_make
 def parser() -> Parser:
     """Returns the command's arguments."""
     parser = Parser("late", __doc__)
-    parser.usage = (
-        "pressroom late [options] WORK PAGE [PAGE ..] OUT\n       pressroom late [options] PAGE [PAGE ..]"
-    )
-    parser.add_argument(
-        "names",
-        metavar="WORK PAGE .. OUT",
-        nargs="+",
-        help="the folder of the edition's plans and files, the pages that came late, and the folder of the "
-        "edition's versions; only the pages where pressroom.toml names the folders",
-    )
     parser.add_argument("--house", metavar="FILE", help="the house file, for `pressroom intake`")
     parser.add_argument("--in", dest="into", metavar="IN", help="the folder of the edition's pages")
     parser.add_argument(
@@ -45,6 +35,15 @@ def parser() -> Parser:
         help="the name of a page is its path below this folder, as for west/A03.pdf (default: its file name)",
     )
     parser.add_program()
+    options = parser.format_usage().removeprefix("usage: ").rstrip()
+    parser.usage = f"{options} WORK PAGE [PAGE ..] OUT"
+    parser.add_argument(
+        "names",
+        metavar="WORK PAGE .. OUT",
+        nargs="+",
+        help="the folder of the edition's plans and files, the pages that came late, and the folder of the "
+        "edition's versions; only the pages where pressroom.toml names the folders",
+    )
     return parser
 
 

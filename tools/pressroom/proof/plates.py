@@ -5,6 +5,7 @@ Only files with the full name of a plate are read, so a `.tif.part` never is.
 import hashlib
 import os
 
+from pressroom.base.files import Unreadable, open_regular
 from pressroom.proof.names import COLOURS, PLATE, see_size
 from pressroom.tiff.tiff import Broken, Tiff
 
@@ -46,9 +47,11 @@ def content_of(path: str) -> str:
     """An identity of the file's bytes: files have the same one exactly if their bytes are the same."""
     digest = hashlib.sha256()
     try:
-        with open(path, "rb") as file:
+        with open_regular(path) as file:
             while piece := file.read(BLOCK):
                 digest.update(piece)
+    except Unreadable as error:
+        raise Broken(str(error)) from None
     except OSError as error:
         raise Broken(f"{path}: {error.strerror}") from None
     return digest.hexdigest()

@@ -5,7 +5,6 @@ are read by the rules of docs/FORMATS.md, without their tests: plateroom itself 
 first directory is read. A file that can't be read raises Broken.
 """
 import os
-import stat
 import struct
 import sys
 from array import array
@@ -13,6 +12,7 @@ from collections.abc import Iterator
 from typing import BinaryIO
 
 from pressroom.base.faults import Fault
+from pressroom.base.files import Unreadable, open_regular
 
 PACKBITS = 32773
 DEFAULTS = {258: 1, 259: 1, 277: 1, 278: 4294967295, 284: 1}
@@ -72,12 +72,11 @@ class Tiff:
     def open(self) -> BinaryIO:
         """Opens the file, unless it is open. A FIFO or a device is refused."""
         if self.file is None:
-            handle = os.open(self.path, os.O_RDONLY | os.O_NONBLOCK | os.O_CLOEXEC)
-            self.file = open(handle, "rb")
-            found = os.fstat(handle)
-            if not stat.S_ISREG(found.st_mode):
-                raise Broken(f"{self.path}: not a regular file")
-            self.size = found.st_size
+            try:
+                self.file = open_regular(self.path)
+            except Unreadable as error:
+                raise Broken(str(error)) from None
+            self.size = os.fstat(self.file.fileno()).st_size
         return self.file
 
     def at(self, place: int, size: int) -> bytes:

@@ -111,6 +111,8 @@ class Placed:
     def __init__(self, work: str) -> None:
         self.kept = os.path.join(work, ".before")
         self.before: list[tuple[str, str | None]] = []
+        # The folders that were made for them, outermost first.
+        self.made: list[str] = []
 
     def put(self, source: str, target: str) -> None:
         """Puts a copy of a file at a path, in place of a file there, if any."""
@@ -122,6 +124,11 @@ class Placed:
         else:
             old = None
         self.before.append((target, old))
+        missing, folder = [], os.path.dirname(os.path.abspath(target))
+        while not os.path.isdir(folder):
+            missing.append(folder)
+            folder = os.path.dirname(folder)
+        self.made += reversed(missing)
         disk.copy_whole(source, target)
 
     def undo(self) -> None:
@@ -131,6 +138,9 @@ class Placed:
                 disk.remove(target)
             else:
                 disk.copy_whole(old, target)
+        for folder in reversed(self.made):
+            if os.path.isdir(folder) and not os.listdir(folder):
+                os.rmdir(folder)
         self.forget()
 
     def forget(self) -> None:
