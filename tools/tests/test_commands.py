@@ -27,7 +27,8 @@ def test_help(command: str, capsys: pytest.CaptureFixture[str]) -> None:
 
 @pytest.mark.parametrize("command", front.COMMANDS)
 def test_version_and_errors(command: str, capsys: pytest.CaptureFixture[str]) -> None:
-    for words, status in (["--version"], 0), (["--jsn"], 2), ([], 2):
+    calls: list[tuple[list[str], int]] = [(["--version"], 0), (["--jsn"], 2), ([], 2)]
+    for words, status in calls:
         with pytest.raises(SystemExit) as ended:
             front.main([command, *words])
         assert ended.value.code == status

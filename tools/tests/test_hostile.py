@@ -113,8 +113,9 @@ def test_no_traceback(tmp_path: Path, name: str) -> None:
     calls = [(command, words) for command, calls in CALLS.items() if not lacks(command) for words in calls]
     rooms = [Room(tmp_path / str(number), DATA.get(name)) for number in range(len(calls))]
     with ThreadPoolExecutor(2) as pool:
-        answers = pool.map(lambda room, call: room.call(*call), rooms, calls)
-        for (command, words), answer in zip(calls, answers):
+        jobs = [pool.submit(room.call, command, words) for room, (command, words) in zip(rooms, calls)]
+        for (command, words), job in zip(calls, jobs):
+            answer = job.result()
             said = answer.stderr.decode("utf-8", "surrogateescape")
             place = f"{command} {words}: {answer.returncode}\n{said[-2000:]}"
             assert "Traceback" not in said + answer.stdout.decode("utf-8", "replace"), place
