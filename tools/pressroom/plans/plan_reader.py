@@ -7,6 +7,7 @@ from typing import Any
 from pressroom.base.faults import Fault
 from pressroom.base.files import Unreadable, read_file
 from pressroom.plans.form import INKS, PlanForm, Section, Site, is_formed
+from pressroom.plans.ring import Shape
 
 # The program takes plans of at most 16 MB, and refuses longer ones by name; these aren't even read.
 MOST_BYTES = 1 << 25
@@ -83,6 +84,12 @@ class Plan:
                 kept = inks_of(inks[left] + inks[right])
                 names += [f"{self.form['edition']}-{section['name']}-{number:03}-{ink}.tif" for ink in kept]
         return names
+
+    def shape(self) -> Shape:
+        """What decides how wide its plates are."""
+        plan = self.form
+        margins = plan.get("margins", [0, 0, 0, 0])
+        return {"page": plan["page"], "margins": margins, "gutter": plan.get("gutter", 0)}
 
     def alone(self, sites: list[str]) -> bytes:
         """The text of the plan of these of its sites: their plates are those of the whole plan."""

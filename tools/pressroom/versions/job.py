@@ -107,7 +107,7 @@ class Job:
         path = self.plan_file(plan, sites)
         words = ["keys"] if keys else ["run"]
         words += [path, self.version.files, self.version.path] + [str(keys)] * bool(keys)
-        words.append(str(ring_of(plan.form, len(sites) + bool(keys))))
+        words.append(str(ring_of(plan.shape(), len(sites) + bool(keys))))
         with self.seconds.of("run"):
             return runs.call([self.program, *words], self.done.look)
 

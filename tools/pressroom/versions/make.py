@@ -100,7 +100,7 @@ def run_parts(job: Job, plan: Plan, sites: list[str], engine: str) -> runs.Call:
         "PLATEROOM": os.path.abspath(shutil.which(job.program) or job.program),
         "TOOLS": os.path.join(HERE, ".."),
         "PARTS": os.path.abspath(job.version.file(f"{plan.name}.parts")),
-        "RING": str(ring_of(plan.form, len(sites))),
+        "RING": str(ring_of(plan.shape(), len(sites))),
     }
     with job.seconds.of("run"):
         return runs.call([os.path.join(queue, f"{engine}.sh"), *words], job.done.look, environment)
