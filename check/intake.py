@@ -21,6 +21,7 @@ import time
 sys.dont_write_bytecode = True
 from intake_corpus import see_corpus
 from intake_ink import see_ink
+from intake_inks import see_bands, see_inks
 from intake_pages import HOUSE, Pages, fields, intake, missing_program, plates_of
 from intake_refused import see_words
 from intake_strips import see_strips
@@ -552,6 +553,8 @@ def main():
             (see_colours, (results, program, folder)),
             (see_ink, (results, folder)),
             (see_words, (results, folder)),
+            (see_inks, (results, folder)),
+            (see_bands, (results, program, folder)),
             (see_told, (results, folder)),
             (see_tiffs, (results, program, folder)),
             (see_changes, (results, program, folder)),

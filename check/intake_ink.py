@@ -29,6 +29,9 @@ def inks(red, green, blue):
 
 
 GREY = inks(128, 128, 128)
+# The corners and control points of a square patch, from the lower left corner upwards.
+PATCH = [(0, 8 * n) for n in range(4)] + [(8 * n, 24) for n in range(1, 4)]
+PATCH += [(24, 8 * n) for n in (2, 1, 0)] + [(8 * n, 0) for n in (2, 1)]
 AXIAL = "<< /ShadingType 2 /ColorSpace {0} /Coords [{3}] /Extend [true true] /Function {1} {2} >>"
 LINEAR = "<< /FunctionType 2 /Domain [0 1] /C0 [{}] /C1 [{}] /N 1 >>"
 
@@ -62,7 +65,6 @@ def mask_sheet(group, keys):
         rgb=f"{half} rg {FILL}",
         white=f"1 1 1 rg {FILL}",
         red=f"1 0 0 rg {FILL}",
-        stroke=f"{half} RG 20 w 0 10 m 20 10 l S",
         icc=(f"/I cs {half} sc {FILL}", space),
         index=(f"/X cs 1 sc {FILL}", space),
         shading=("/S sh", f"/Shading << /S {axial('/DeviceRGB', half, half)} >>"),
@@ -72,8 +74,9 @@ def mask_sheet(group, keys):
         form=("/F Do", "/XObject << /F {inner} >>"),
         tiles=(f"/Pattern cs /T scn {FILL}", "/Pattern << /T {tile} >>"),
         mesh=("/M sh", "/Shading << /M {mesh} >>"),
+        patch=("/M sh", "/Shading << /M {patch} >>"),
+        lattice=("/M sh", "/Shading << /M {lattice} >>"),
         picture=("q 20 0 0 20 0 0 cm /I Do Q", "/XObject << /I {picture} >>"),
-        cmyk=f"0 0 0 .5 k {FILL}",
         grey=f".5 g {FILL}",
     )
     objects |= {
@@ -94,10 +97,20 @@ def mask_sheet(group, keys):
             "/Decode [0 40 0 40 0 1 0 1 0 1]",
             mesh,
         ),
+        "patch": (
+            "/ShadingType 6 /ColorSpace /DeviceRGB /BitsPerCoordinate 8 /BitsPerComponent 4 /BitsPerFlag 8 "
+            "/Decode [0 255 0 255 0 1 0 1 0 1]",
+            bytes([0, *(side for point in PATCH for side in point)]) + bytes.fromhex("888" * 4),
+        ),
+        "lattice": (
+            "/ShadingType 5 /ColorSpace /DeviceRGB /BitsPerCoordinate 8 /BitsPerComponent 8 /VerticesPerRow 2 "
+            "/Decode [0 255 0 255 0 1 0 1 0 1]",
+            b"".join(bytes([x, y, 128, 128, 128]) for x, y in ((0, 0), (30, 0), (0, 30), (30, 30))),
+        ),
         "picture": image(b"\x80" * 48, "/DeviceRGB"),
     }
     wanted = dict.fromkeys((name[5:] for name in objects if name.startswith("mask_")), HALF)
-    wanted |= {"white": CYAN, "red": (24, 0, 0, 0)}
+    wanted |= {"white": CYAN, "red": (24, 0, 0, 0), "patch": (80 * 8 / 15, 0, 0, 0)}
     cells = {name: (f"/{name} gs .8 0 0 0 k {FILL}", ink) for name, ink in wanted.items()}
     notes = ("blending",) if "RGB" in keys else ()
     return Sheet(cells, objects, states, keys, notes=notes)
@@ -116,7 +129,9 @@ def more_masks():
     )
     states += "/Wide << /SMask << /S /Luminosity /G {pictures} >> >> /Bits << /SMask << /S /Luminosity /G {bits} >> >> "
     states += "/Table << /SMask << /S /Luminosity /G {table} >> >> /Turned << /SMask << /S /Luminosity /G {turned} >> >>"
-    for name in ("Line", "Lines", "Jpeg"):
+    one = LINEAR.format(".5", ".5")
+    three = f"<< /ShadingType 2 /ColorSpace /DeviceRGB /Coords [0 0 20 0] /Function [{one} {one} {one}] >>"
+    for name in ("Line", "Lines", "Jpeg", "Ink", "Strokes", "Three"):
         states += f" /{name} {mask(name.lower())}"
     group = "/Group << /S /Transparency /CS /DeviceRGB >>"
     objects = {
@@ -129,6 +144,9 @@ def more_masks():
         "bits": form("q 20 0 0 20 0 0 cm /I Do Q", group, "/XObject << /I {four} >>"),
         "table": form("q 20 0 0 20 0 0 cm /I Do Q", group, "/XObject << /I {indexed} >>"),
         "turned": form("q 20 0 0 20 0 0 cm /I Do Q", group, "/XObject << /I {inverse} >>"),
+        "ink": form(f"0 0 0 .5 k {FILL}", group),
+        "strokes": form(".5 .5 .5 RG 20 w 0 10 m 20 10 l S", group),
+        "three": form("/S sh", group, f"/Shading << /S {three} >>"),
         "line": form(f"q 20 0 0 20 0 0 cm BI /W 2 /H 1 /CS /RGB /BPC 8 /F /AHx ID {'80' * 6}> EI Q", group),
         "lines": form(
             "q 20 0 0 20 0 0 cm BI /W 1 /H 1 /CS [/I /RGB 1 <000000808080>] /BPC 8 /F /AHx ID 01> EI Q", group
@@ -157,7 +175,9 @@ def more_masks():
         "4 bits": (f"/Bits {paint}", (80 * 8 / 15, 0, 0, 0)),
         "indexed": (f"/Table {paint}", HALF),
         "decode": (f"/Turned {paint}", (64, 0, 0, 0)),
-        "none": (f"/Lum gs /None {paint}", CYAN),
+        "CMYK": (f"/Ink {paint}", HALF),
+        "strokes": (f"/Strokes {paint}", HALF),
+        "three functions": (f"/Three {paint}", HALF),
         "opacity": (f"/Half {paint}", HALF),
         "inline": (f"/Line {paint}", HALF),
         "inline, indexed": (f"/Lines {paint}", HALF),

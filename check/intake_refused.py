@@ -99,6 +99,7 @@ def refused():
     for name, data in cut.items():
         found[f"JPEG in {name}"] = pictured(data, spaces[name]), "damaged", f"the picture I of the page{end}"
     places = {
+        "inline": "an inline picture of the page",
         "form": "the picture I of the form F", "soft mask": "the mask of the picture O of the page",
         "luminosity mask": "the picture I of a soft mask of the page",
     }  # fmt: skip
@@ -132,6 +133,10 @@ def accepted():
     grey = jpeg("L")
     return {
         "zeros after its end": Sheet(PLAIN, extra=bytes(2000)),
+        "metadata": Sheet(
+            {"black": (f"0 0 0 rg {FILL}", BLACK)}, {"data": ("/Type /Metadata /Subtype /XML", b"<x/>")},
+            root="/Metadata {data}",
+        ),
         "a unit of 1": Sheet(PLAIN, keys="/UserUnit 1"),
         "a unit of 2": Sheet(PLAIN, keys="/UserUnit 2", unit=2),
         "a unit of a half": Sheet(PLAIN, keys="/UserUnit .5", unit=0.5),

@@ -94,7 +94,8 @@ def see_strips(results, folder):
             shutil.copytree(given, place)
         name, inspected = inspect(Limits(), "page.pdf", places[0])
         shutil.copy(os.path.join(places[0], name), places[1])
-        results.see((inspected.rgb, inspected.strips) == (rgb, strips), f"{kind}: {inspected}")
+        planes = inspected.may_be_painted(len(inspected.spots))
+        results.see((inspected.rgb, planes) == (rgb, strips), f"{kind}: {inspected}")
         calls = [Ghostscript(version, Limits(), name, inspected.box, place) for place in places]
         wanted, wanted_seen = calls[1].separate(DPI, SIZE, "HOUSE", False)
         painted = calls[0].painted(DPI, SIZE, "HOUSE") if strips else None
@@ -129,7 +130,7 @@ def see_by_hand(results, folder, version):
     call = Ghostscript(version, Limits(), "page.pdf", "Crop", folder)
     curve = b"0.3 0 0 1 k 0 0 1 0.2 K 2 w 10 10 m 160 20 10 90 150 110 c b 20 120 60 60 re f"
     by_hand(folder, curve, keys="/Group << /S /Transparency /CS /DeviceCMYK >>")
-    results.see(inspect(Limits(), "page.pdf", folder)[1].strips, "a page that is a group may not be painted")
+    results.see(inspect(Limits(), "page.pdf", folder)[1].may_be_painted(0), "a page that is a group may not be painted")
     painted = call.painted(DPI, SIZE, None)
     found = files(folder)
     wanted, seen = call.separate(DPI, SIZE, None, False)

@@ -114,6 +114,13 @@ def read_pattern(value: object) -> str:
     return value
 
 
+def read_aliases(value: object) -> tuple[tuple[str, str], ...]:
+    """Reads a table of names of separations, each with the name of the separation that it means."""
+    if not isinstance(value, dict) or len(value) > 256:
+        raise wrong(value, ALIASES.words)
+    return tuple((SEPARATION.read(name), SEPARATION.read(meant)) for name, meant in value.items())
+
+
 def read_curve(value: object) -> tuple[tuple[float, ...], ...]:
     """Reads a curve: points of percent and percent, each to the right of the one before, also in 255ths."""
     points = CURVE_POINTS.read(value)
@@ -144,6 +151,8 @@ COLOUR = Form(COLOUR_TEXT.words, read_colour)
 SEPARATION = matching(r"[^\x00-\x1f]{1,60}", "the name of a separation, of 1 to 60 characters")
 INK_LETTERS = matching("(?=.)C?M?Y?K?S?", "some of the letters CMYKS, in this order")
 PATTERN = Form('a pattern of file names with {section} and {page}, such as "{section}{page}"', read_pattern)
+NAMES = listed(SEPARATION, "a list of 1 to 32 names of separations", range(1, 33))
+ALIASES = Form("a table of at most 256 names of separations", read_aliases)
 CURVE_POINTS = listed(
     numbers(2, 0, 100, "a point of two numbers of 0 to 100 percent"),
     "a list of 2 to 32 points [percent, percent] from 0 to 100, each to the right of the one before",

@@ -103,7 +103,8 @@ def read_proof(path: str) -> tuple[str | None, tuple[int, int, int] | None, InkK
     }
     ink_keys = keys.inside("keys").whole(InkKeys) if keys.table.get("keys", {}) != {} else None
     keys.faults.end()
-    return own["separation"], own["colour"], ink_keys
+    first = own["names"][0] if own["names"] else None
+    return own["separation"] or first, own["colour"], ink_keys
 
 
 class Reading:
@@ -118,7 +119,7 @@ class Reading:
         sheet = keys.fill(Sheet)
         sections = self.sections()
         colour = self.colour()
-        spot = keys.inside("spot").whole(Spot) if "spot" in keys.table else None
+        spot = self.spot() if "spot" in keys.table else None
         presses = self.presses(sheet["dpi"])
         sites = self.sites(presses)
         house = None
@@ -167,6 +168,18 @@ class Reading:
             self.faults.add(keys.path, "is missing", "profile")
         keys.end()
         return found
+
+    def spot(self) -> Spot | None:
+        """Reads the house's spot. Its first name is its separation, where the file has no other."""
+        keys, declared = self.keys.inside("spot"), keys_of(Spot)
+        names = keys.take("names", declared["names"])
+        first = names[0] if names else None if "names" in keys.table else REQUIRED
+        separation = keys.take("separation", dataclasses.replace(declared["separation"], default=first))
+        colour, aliases = keys.take("colour", declared["colour"]), keys.take("aliases", declared["aliases"])
+        keys.end()
+        if not (separation and colour) or aliases is None:
+            return None
+        return Spot(separation=separation, colour=colour, names=(separation, *(names or ())), aliases=aliases)
 
     def tone(self, keys: Keys, dpi: int | None, base: dict[str, Any]) -> dict[str, Any]:
         """Reads the limit, screens, curves and marks of a table. The base provides what the table lacks."""

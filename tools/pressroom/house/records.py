@@ -8,6 +8,8 @@ from dataclasses import dataclass, field
 
 from pressroom.house import tile
 from pressroom.house.forms import (
+    ALIASES,
+    NAMES,
     COLOUR,
     CURVE,
     INK_LETTERS,
@@ -90,10 +92,15 @@ class Site:
 
 @dataclass(frozen=True, kw_only=True)
 class Spot:
-    """The separation that is printed as S, and its colour on paper as red, green and blue of 0 to 255."""
+    """The separation that is printed as S, its colour on paper as red, green and blue of 0 to 255, the names that it
+    has in PDFs, and pairs of a separation's name in PDFs and the separation that it means."""
 
-    separation: str = key(SEPARATION, "the name of the separation that is printed as S")
+    separation: str = key(
+        SEPARATION, "the separation that is printed as S; the first of its names if it has some"
+    )
     colour: tuple[int, int, int] = key(COLOUR, "its colour on paper")
+    names: tuple[str, ...] = key(NAMES, "the names that it has in PDFs", ())
+    aliases: tuple[tuple[str, str], ...] = key(ALIASES, "what the names of other separations mean", ())
 
 
 @dataclass(frozen=True, kw_only=True)

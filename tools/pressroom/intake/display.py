@@ -1,9 +1,9 @@
 """Renders a page into memory with Ghostscript's library, strip by strip, and writes the page's files.
 
 intake runs this file as a separate process, under limits, in the page's folder. Its one argument is a JSON
-object: `words`, the arguments of Ghostscript; `pdf`, the file; `size` in pixels; `dpi`; `house`, the name of
-the house's spot or null; and `version`, the output of `gs --version`, which the library must match. The
-process writes `seen.npy` and `answer.json`, and exits with 0 if everything was made.
+object: `words`, the arguments of Ghostscript; `file`, those that name the file; `size` in pixels; `dpi`;
+`house`, the name of the house's spot or null; `has_all`, whether the page has the separation All; and
+`version`, the output of `gs --version`, which the library must match. The process writes `seen.npy` and `answer.json`, and exits with 0 if everything was made.
 
 It uses Ghostscript's device `display` with separations in planes (gdevdsp.h). The device asks for one
 rectangle after another, and calls back when each is painted. Its bytes are ink: 0 is bare.
@@ -91,7 +91,7 @@ class Painter:
 
     def __init__(self, folder, asked):
         self.folder, self.size, self.dpi = folder, tuple(asked["size"]), asked["dpi"]
-        self.house = asked["house"]
+        self.house, self.has_all = asked["house"], asked["has_all"]
         self.names, self.made, self.memory, self.wrong = {}, None, None, None
         # Rows in a band, rows that are painted, and rows whose strips are written.
         self.rows, self.painted, self.taken = STRIP, 0, 0
@@ -146,7 +146,7 @@ class Painter:
         spots = [self.names[number] for number in sorted(self.names) if number >= 4]
         if len(spots) > 1:
             raise ValueError("the order of spots may differ from that of planes in a file")
-        self.made = Separations(self.folder, self.size, self.dpi, spots, self.house)
+        self.made = Separations(self.folder, self.size, self.dpi, spots, self.house, None, self.has_all)
         self.memory = np.zeros((PLANES, STRIP + self.rows, self.size[0]), np.uint8)
 
     def take(self):
@@ -184,7 +184,8 @@ def main():
 
     asked = json.loads(sys.argv[1])
     painter, form = Painter(".", asked), f"-dDisplayFormat={FORMAT}"
-    status = rendered([*asked["words"], "-sDEVICE=display", form, asked["pdf"]], asked["version"], painter)
+    words = [*asked["words"], "-sDEVICE=display", form, *asked["file"]]
+    status = rendered(words, asked["version"], painter)
     if painter.wrong:
         raise painter.wrong
     if status or painter.taken != asked["size"][1]:

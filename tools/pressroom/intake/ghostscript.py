@@ -7,6 +7,7 @@ from dataclasses import dataclass
 
 from pressroom.base.limits import Limits, Passed, PassedTime
 from pressroom.intake import display
+from pressroom.intake.colorant_names import PROCESS
 from pressroom.intake.pdf import Refused, first_line, printable
 from pressroom.intake.planes import Planes
 from pressroom.intake.separations import Separations
@@ -24,7 +25,8 @@ SMALL = 8 << 20
 @dataclass(frozen=True)
 class Ghostscript:
     """Renders one page: a PDF in a folder that also has the files of write_profiles. `box` names the page box
-    that is rendered, `version` is the output of `gs --version`.
+    that is rendered, `version` is the output of `gs --version`. `planes` names the separations that have a
+    plane besides the four inks: all others are mixed by their tint transforms. None gives each a plane.
     """
 
     version: str
@@ -32,6 +34,7 @@ class Ghostscript:
     pdf: str
     box: str
     folder: str
+    planes: tuple[bytes, ...] | None = None
 
     def words(self, dpi, size, colours="colour"):
         """Returns the arguments of a call without the device and the file."""
@@ -55,9 +58,17 @@ class Ghostscript:
             f"-g{size[0]}x{size[1]}",
         ]
 
+    def file(self):
+        """Returns the last arguments of a call, which name the file."""
+        if self.planes is None:
+            return [self.pdf]
+        names = [f"<{name.hex()}> cvn" for name in (*PROCESS, *self.planes)]
+        order = f"/SeparationColorNames [ {' '.join(names[4:])} ] /SeparationOrder [ {' '.join(names)} ]"
+        return ["-c", f"<< {order} >> setpagedevice", "-f", self.pdf]
+
     def render(self, dpi, size, name, colours="colour"):
         """Renders the page, at this size in pixels, to this file in the folder. Returns its planes."""
-        words = [*self.words(dpi, size, colours), "-sDEVICE=psdcmyk", f"-sOutputFile={name}", self.pdf]
+        words = [*self.words(dpi, size, colours), "-sDEVICE=psdcmyk", f"-sOutputFile={name}", *self.file()]
         status, out, note = self.limits.run(words, self.folder)
         path = os.path.join(self.folder, name)
         if status or not os.path.isfile(path):
@@ -68,30 +79,31 @@ class Ghostscript:
             raise Refused("damaged", f"damaged: {printable(said) or 'Ghostscript had to repair it'}")
         return Planes(path, size)
 
-    def separate(self, dpi, size, house, strips):
+    def separate(self, dpi, size, house, strips, tables=None, has_all=False):
         """Makes the page's files. Returns the result of Separations.end and the page at a low resolution.
+        `tables` and `has_all` are those of Separations.
 
         With `strips`, the library paints the page strip by strip into memory. That takes less than half the
         time of planes in a file, and makes the same pixels, except on pages so small that `gs` paints them
         without bands. All other pages go through a file. So do pages on which the library fails: then `gs`
         reports what is wrong.
         """
-        painted = self.painted(dpi, size, house) if strips and size[0] * size[1] > SMALL else None
+        painted = self.painted(dpi, size, house, has_all) if strips and size[0] * size[1] > SMALL else None
         if painted:
             return painted
         planes = self.render(dpi, size, "page.psd")
-        made = Separations(self.folder, size, dpi, planes.spots, house)
+        made = Separations(self.folder, size, dpi, planes.spots, house, tables, has_all)
         for number, strip in planes.strips():
             made.add(number, strip)
         os.remove(planes.path)
         return made.end(), made.seen
 
-    def painted(self, dpi, size, house):
+    def painted(self, dpi, size, house, has_all=False):
         """Returns what `separate` returns, made by the library, or None if the library fails."""
         import numpy as np
 
-        asked = {"words": self.words(dpi, size), "pdf": self.pdf, "size": size, "dpi": dpi}
-        asked |= {"house": house, "version": self.version}
+        asked = {"words": self.words(dpi, size), "file": self.file(), "size": size, "dpi": dpi}
+        asked |= {"house": house, "has_all": has_all, "version": self.version}
         words = [sys.executable, "-B", os.path.abspath(display.__file__), json.dumps(asked)]
         try:
             status, out, note = self.limits.run(words, self.folder, "gs")

@@ -14,6 +14,7 @@ status: 0 the plans are written; 1 a page has a fault; 2 the arguments or the ho
 or library isn't installed, WORK can't be written, or another intake is using WORK
 """
 import argparse
+import dataclasses
 import importlib.util
 import os
 import shutil
@@ -28,10 +29,11 @@ from pressroom.base.console import Console, Missing, need
 from pressroom.base.limits import Limits, Passed
 from pressroom.house.folders import with_folders
 from pressroom.house.house import HouseFault, read_house
-from pressroom.intake import bitmaps, pages, profiles, state
+from pressroom.intake import bands, bitmaps, pages, profiles, state
 from pressroom.intake.ghostscript import Ghostscript
 from pressroom.intake.layers import Made, Rendering
-from pressroom.intake.pdf import Refused, inspect
+from pressroom.intake.mixing import Mixing, mixing_of
+from pressroom.intake.pdf import Inspected, Refused, inspect
 from pressroom.intake.survey import above, rgb_of, thin_white
 from pressroom.plans import plans
 
@@ -94,6 +96,7 @@ class Intake:
                 made = bitmaps.made_of(self.house, self.limits, copy, folder)
             else:
                 made = self.rendered(copy, folder)
+            made = dataclasses.replace(made, layers=bands.cut(folder, made.layers))
             page = self.stored(source.place, key, made, folder)
             return Outcome(source, page, made.notes, key=key, seconds=time.monotonic() - begun)
 
@@ -105,17 +108,21 @@ class Intake:
         self.see_size(inspected.millimetres())
         gs = Ghostscript(self.version, self.limits, name, inspected.box, folder)
         notes = [(kind, text, None) for kind, text in inspected.notes]
-        if inspected.lab and self.house.rgb == "refuse":
+        mixing = mixing_of(self.house, self.limits, inspected, gs)
+        gs = dataclasses.replace(gs, pdf=mixing.pdf, planes=mixing.planes)
+        lab = inspected.lab or "lab" in mixing.alternates
+        if lab and self.house.rgb == "refuse":
             raise Refused("rgb", "it has Lab colours, which the house file refuses as it does RGB")
-        if inspected.lab:
+        if lab:
             notes.append(("rgb", "Lab colours are converted", None))
-        rgb = rgb_of(gs, inspected.millimetres()) if inspected.rgb else None
+        rgb = self.rgb_of(gs, inspected, mixing)
         if rgb and self.house.rgb == "refuse":
             raise Refused("rgb", "it has RGB, which the house file refuses", rgb)
         if rgb:
             notes.append(("rgb", "RGB is converted", rgb))
-        rendering = Rendering(self.house, gs)
-        made, seen = rendering.made(inspected.strips), rendering.seen
+        rendering = Rendering(self.house, gs, mixing)
+        planes = len(inspected.spots - {"All"} if mixing.planes is None else mixing.planes)
+        made, seen = rendering.made(inspected.may_be_painted(planes)), rendering.seen
         notes += made.notes
         for press in self.house.presses.values():
             heavy = above(seen, press.limit)
@@ -125,6 +132,16 @@ class Intake:
         for place in thin_white(self.limits, name, inspected, seen, folder) if inspected.white else ():
             notes.append(("white", "thin white text over four inks", place))
         return Made(made.inks, made.layers, tuple(notes))
+
+    def rgb_of(self, gs: Ghostscript, inspected: Inspected, mixing: Mixing) -> tuple[float, ...] | None:
+        """Returns where RGB shows, or None. In planes, RGB through which a spot is mixed doesn't show."""
+        spot = self.house.spot.separation if self.house.spot else None
+        calls = [gs] if inspected.rgb else []
+        if "rgb" in mixing.alternates:
+            own = tuple(name for name in mixing.planes or () if spot and name == spot.encode())
+            calls.append(dataclasses.replace(gs, planes=own))
+        places = (rgb_of(call, inspected.millimetres(), spot) for call in calls)
+        return next((place for place in places if place), None)
 
     def see_size(self, size):
         """Refuses a page whose trim differs from the house's by more than the tolerance."""
@@ -247,9 +264,13 @@ def write_plans(house, work, ready, console):
         name = f"{press.name}.json"
         sizes = {file: os.path.getsize(os.path.join(work.files, file)) for file in plans.files_of(plan)}
         total = sum(sizes.values())
-        if total > plans.MOST_BYTES or max(sizes.values(), default=0) > plans.MOST_FILE:
-            words = f"{name}: its files have {total} bytes; the limit is {plans.MOST_BYTES}: split it with"
-            console.tell("note", f"{words} pressroom parts", file=name, kind="bytes")
+        if total > plans.MOST_BYTES:
+            section, site, most = plans.largest_part(plan, sizes)
+            words = f"{name}: its files have {total} bytes; the limit is {plans.MOST_BYTES}: "
+            words += "split it with pressroom parts" if most <= plans.MOST_BYTES else (
+                f"pressroom parts can't split it, because section {section} for {site} alone has {most}"
+            )
+            console.tell("note", words, file=name, kind="bytes")
         changed = plans.write(os.path.join(work.path, name), plan)
         said = "written" if changed else "unchanged"
         console.tell("plan", f"{name}: {said}", file=name, changed=changed, bytes=total)

@@ -63,25 +63,30 @@ def letters(colours, spot):
 class Rendering:
     """Makes the layers of one page with Ghostscript."""
 
-    def __init__(self, house, gs):
-        self.house, self.gs, self.size, self.notes, self.seen = house, gs, house.page_pixels(), [], None
+    def __init__(self, house, gs, mixing):
+        self.house, self.gs, self.mixing = house, gs, mixing
+        self.size, self.notes, self.seen = house.page_pixels(), [], None
 
     def made(self, strips):
         """Makes the page's layers. `strips` is whether the page may be painted in strips."""
         house = self.house.spot.separation if self.house.spot else None
-        page, self.seen = self.gs.separate(self.house.dpi, self.size, house, strips)
-        tints = []
+        mixing, tints = self.mixing, []
+        page, self.seen = self.gs.separate(
+            self.house.dpi, self.size, house, strips, mixing.tables, mixing.has_all
+        )
         for spot in page["spots"]:
             if spot["house"]:
                 tints += self.tints(spot)
             else:
-                self.mixed(spot)
+                self.mixed(mixing.shown(spot["name"]), spot["place"])
+        for name, place in mixing.without_plane(self.gs, self.house.trim):
+            self.mixed(name, place)
         bottom = [Layer("cmyk.tif", "cmyk", {"kind": "contone"})] if page["colours"] or not tints else []
         return Made(letters(page["colours"], tints), (*bottom, *tints), tuple(self.notes))
 
-    def mixed(self, spot):
+    def mixed(self, spot, place):
         """Notes a spot that isn't the house's and was mixed into the four inks, or refuses it."""
-        name, place = printable(spot["name"]), tuple(spot["place"])
+        name, place = printable(spot), tuple(place)
         if self.house.spots == "refuse":
             raise Refused("spot", f"the spot {name} isn't the house's", place)
         self.notes.append(("spot", f"the spot {name} is mixed into CMYK", place))

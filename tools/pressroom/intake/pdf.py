@@ -35,7 +35,8 @@ class Refused(Exception):
 class Inspected:
     """A page that can be rendered: its trim and crop boxes in points of the unrotated page, its rotation in
     degrees, which of the boxes is rendered, whether it may have RGB, whether it has Lab, whether it may have white
-    text, whether it may be painted in strips, and its unit in points.
+    text, its unit in points, whether something may be transparent or overprint, the names of its separations but the
+    four inks, a letter for each byte, and whether it may have transfer functions.
     """
 
     trim: tuple[float, ...]
@@ -46,8 +47,19 @@ class Inspected:
     rgb: bool
     lab: bool
     white: bool
-    strips: bool
     unit: float
+    blends: bool
+    overprints: bool
+    spots: frozenset[str]
+    transfers: bool
+
+    def may_be_painted(self, planes: int) -> bool:
+        """Returns whether Ghostscript's library can paint this page in strips with the pixels of `psdcmyk`.
+        `planes` is how many separations have a plane besides the four inks.
+
+        In strips the library can't blend, doesn't overprint, and returns several spots in another order.
+        """
+        return not self.blends and not self.overprints and planes < 2
 
     def millimetres(self) -> tuple[float, float]:
         """Returns the width and height of the trimmed page, rotated as it is shown."""
@@ -146,5 +158,7 @@ def inspect(limits: Limits, name: str, folder: str) -> tuple[str, Inspected]:
         notes.append(("blending", "transparency in RGB is blended in CMYK"))
     trim, crop = (tuple(side * page["unit"] for side in box) for box in (page["trim"], page["crop"]))
     box = "Trim" if page["trimmed"] else "Crop"
-    shown = page["rgb"], page["lab"], page["white"], page["strips"], page["unit"]
-    return "edited.pdf" if page["edited"] else name, Inspected(trim, crop, page["turn"], box, tuple(notes), *shown)
+    shown = page["rgb"], page["lab"], page["white"], page["unit"]
+    paints = page["blends"], page["overprints"], frozenset(page["spots"]), page["transfers"]
+    inspected = Inspected(trim, crop, page["turn"], box, tuple(notes), *shown, *paints)
+    return "edited.pdf" if page["edited"] else name, inspected

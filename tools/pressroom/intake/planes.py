@@ -69,8 +69,8 @@ class Planes:
         shape = self.count, self.height, self.width
         return np.memmap(self.path, dtype=np.uint8, mode="r", offset=self.start, shape=shape)
 
-    def mixed(self):
-        """Returns the four inks with all spots mixed in, as an array of rows, columns and inks."""
+    def mixed(self, house):
+        """Returns the four inks with all spots mixed in but the house's, as an array of rows, columns and inks."""
         import numpy as np
 
         stored = self.mapped()
@@ -78,6 +78,8 @@ class Planes:
         for ink in range(4):
             total = 255.0 - stored[ink]
             for spot in self.spots:
+                if house and spot.is_named(house):
+                    continue
                 total += (255.0 - stored[spot.plane]) * spot.mixture[ink]
             inks.append(np.minimum(total, 255).astype(np.uint8))
         return np.stack(inks, axis=2)

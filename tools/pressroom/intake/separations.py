@@ -64,10 +64,38 @@ class Shown:
         return part
 
 
-class Separations:
-    """Writes the files `cmyk.tif` and `spot-N.tif` to a page's folder, and records what the page shows."""
+def all_pixels(planes):
+    """Returns where the separation All is painted: it has one tint in all planes, but for what black prints over
+    it. `planes` is an array of planes, rows and columns.
+    """
+    found = (planes[0] == planes[1]) & (planes[0] == planes[2]) & (planes[3] >= planes[0]) & (planes[0] > 0)
+    for plane in planes[4:]:
+        found &= plane == planes[0]
+    return found
 
-    def __init__(self, folder, size, dpi, spots, house):
+
+def tables_of(spot, table):
+    """Returns the ink of each tint of a spot, a table for each of the four inks: by its mixture, unless the
+    table that Ghostscript made of its tint transform differs from that by more than a 255th.
+    """
+    import numpy as np
+
+    tables = [(np.arange(256) * part + 0.5).astype(np.uint8) for part in spot.mixture]
+    if table is not None:
+        own = np.frombuffer(table, np.uint8).reshape(4, 256)
+        if abs(own.astype(int) - np.stack(tables)).max() > 1:
+            return list(own)
+    return tables
+
+
+class Separations:
+    """Writes the files `cmyk.tif` and `spot-N.tif` to a page's folder, and records what the page shows.
+
+    `tables` has the inks of spots by name, where Ghostscript made them; `has_all` is whether the page has the
+    separation All, which isn't a mixture of spots.
+    """
+
+    def __init__(self, folder, size, dpi, spots, house, tables=None, has_all=False):
         import numpy as np
 
         self.folder, self.size, self.dpi, self.colours = folder, size, dpi, set()
@@ -78,13 +106,18 @@ class Separations:
         self.columns = np.minimum((np.arange(width) * 2 + 1) * dpi // (2 * DPI), size[0] - 1)
         self.lines = np.minimum((np.arange(height) * 2 + 1) * dpi // (2 * DPI), size[1] - 1)
         self.tables = {}
-        for shown in self.spots:
-            parts = [np.arange(256) * part for part in shown.spot.mixture]
-            self.tables[shown.spot.plane] = [(part + 0.5).astype(np.uint8) for part in parts]
+        for spot in spots:
+            self.tables[spot.plane] = tables_of(spot, (tables or {}).get(spot.name))
+        self.mixed = [shown.spot.plane for shown in self.spots if not shown.house]
+        self.has_all = has_all and bool(self.mixed)
         self.kept = {}
 
     def add(self, strip, planes):
         """Adds a strip: an array of planes, rows and columns, which this may change."""
+        if self.has_all:
+            everywhere = all_pixels(planes)
+            for plane in self.mixed:
+                planes[plane][everywhere] = 0
         inked = [plane.view(bool).any() for plane in planes]
         self.look(strip, planes, inked)
         for shown in self.spots:
@@ -109,18 +142,19 @@ class Separations:
         first, last = np.searchsorted(self.lines, (top, top + planes.shape[1]))
         if first == last or not any(inked):
             return
-        taken = planes[:, self.lines[first:last] - top][:, :, self.columns].astype(np.float64)
-        for shown in self.spots:
-            for ink, part in enumerate(shown.spot.mixture):
-                taken[ink] += taken[shown.spot.plane] * part
-        self.seen[first:last] = np.moveaxis(np.minimum(taken[:4], 255), 0, 2)
+        taken = planes[:, self.lines[first:last] - top][:, :, self.columns]
+        total = taken[:4].astype(np.uint16)
+        for plane, tables in self.tables.items():
+            for ink, table in enumerate(tables):
+                total[ink] += table[taken[plane]]
+        self.seen[first:last] = np.moveaxis(np.minimum(total, 255), 0, 2)
 
     def mix(self, spot, planes, part, inked):
         """Mixes a spot into the four inks in this part of a strip."""
         import numpy as np
 
         for ink, table in enumerate(self.tables[spot.plane]):
-            if spot.mixture[ink]:
+            if table.any():
                 below = planes[ink][part]
                 below += np.minimum(table[planes[spot.plane][part]], 255 - below)
                 inked[ink] = inked[ink] or bool(below.any())

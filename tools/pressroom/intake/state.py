@@ -31,7 +31,7 @@ def settings(house, versions):
         house.dpi,
         house.trim,
         house.tolerance,
-        house.spot.separation if house.spot else None,
+        [house.spot.separation, house.spot.names, house.spot.aliases] if house.spot else None,
         house.rgb,
         house.spots,
         sum_of(house.profile) if house.profile else None,

@@ -21,11 +21,13 @@ TEXT = re.compile(
 )
 
 
-def rgb_of(gs, trim_size):
-    """Returns where RGB shows, or None. Renders the page twice, with profiles that differ only for RGB."""
+def rgb_of(gs, trim_size, house):
+    """Returns where RGB shows, or None. Renders the page twice, with profiles that differ only for RGB.
+    `house` is the name of the house's spot, whose colour doesn't matter, or None.
+    """
     size = tuple(max(1, math.ceil(side / ONE)) for side in trim_size)
-    inks = gs.render(DPI, size, "survey.psd").mixed()
-    other = gs.render(DPI, size, "marked.psd", "marked").mixed()
+    inks = gs.render(DPI, size, "survey.psd").mixed(house)
+    other = gs.render(DPI, size, "marked.psd", "marked").mixed(house)
     return box_of((inks != other).any(axis=2), ONE)
 
 

@@ -8,10 +8,10 @@ from pressroom.house import tile
 from pressroom.house.house import INKS, LARGEST_TILE, House, Place
 from pressroom.house.records import Press, Screen
 from pressroom.plans import form
-from pressroom.plans.plan_reader import plans_of
+from pressroom.plans.plan_reader import plans_of, printed
 
-# The most bytes that plateroom loads: of a plan's files together, and of one file.
-MOST_BYTES, MOST_FILE = 3_221_225_472, 536_870_912
+# The most bytes of a plan's files together that plateroom loads.
+MOST_BYTES = 3_221_225_472
 BLANK: form.Page = {"name": "blank", "inks": "K", "layers": []}
 
 
@@ -136,6 +136,19 @@ def plan_of(house: House, press: Press, pages: Mapping[Place, Made]) -> form.Pla
 def files_of(plan: form.PlanForm) -> set[str]:
     """Returns the names of all files of a plan that was made here."""
     return {layer["file"] for page in plan["pages"] for layer in page["layers"]}
+
+
+def largest_part(plan: form.PlanForm, sizes: Mapping[str, int]) -> tuple[str, str, int]:
+    """Returns the section and site whose files have the most bytes together, and how many. `sizes` has the
+    bytes of each file. No part of a plan is smaller than a section for one site.
+    """
+    files = {page["name"]: {layer["file"] for layer in page["layers"]} for page in plan["pages"]}
+    found = []
+    for site in plan["sites"]:
+        for section in plan["sections"]:
+            names = {file for name in printed(plan, section, site) for file in files[name]}
+            found.append((section["name"], site["name"], sum(sizes[file] for file in names)))
+    return max(found, key=lambda part: part[2])
 
 
 def write(path: str, value: object) -> bool:

@@ -25,17 +25,18 @@ OPAQUE: dict[bytes, tuple[object, ...]] = {
     b"/CA": (1,),
     b"/SMaskInData": (0,),
 }
-INKS = {b"/Cyan", b"/Magenta", b"/Yellow", b"/Black", b"/All", b"/None"}
+INKS = {b"/Cyan", b"/Magenta", b"/Yellow", b"/Black", b"/None"}
 
 
 @dataclass
 class Facts:
-    """What the objects of a page have: transparency, overprint, the names of spots, groups that blend in RGB, whether
-    an object refers to itself, and whether an object was changed.
+    """What the objects of a page have: transparency, overprint, transfer functions, the names of spots and of the
+    separation All, groups that blend in RGB, whether an object refers to itself, and whether an object was changed.
     """
 
     blends: bool = False
     overprints: bool = False
+    transfers: bool = False
     rgb_groups: bool = False
     circular: bool = False
     changed: bool = False
@@ -121,7 +122,7 @@ def in_dictionary(
 
 
 def see_key(holder: pikepdf.Object, key: bytes, value: object, facts: Facts, is_page: bool) -> None:
-    """Notes what a key says of transparency, overprint, groups and masks."""
+    """Notes what a key says of transparency, overprint, transfer functions, groups and masks."""
     if key == b"/Group":
         facts.blends |= not is_page
         space = get(value, b"/CS")
@@ -131,5 +132,7 @@ def see_key(holder: pikepdf.Object, key: bytes, value: object, facts: Facts, is_
         facts.blends |= word not in OPAQUE[key]
     elif key in (b"/OP", b"/op"):
         facts.overprints |= value is not False
+    elif key in (b"/TR", b"/TR2", b"/TransferFunction"):
+        facts.transfers |= name(value) not in (b"/Identity", b"/Default")
     elif key == b"/G" and is_stream(value) and name(get(holder, b"/S")) in (b"/Luminosity", b"/Alpha"):
         facts.masks.add(identity(value))

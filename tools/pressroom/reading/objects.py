@@ -118,3 +118,11 @@ def without(holder: pikepdf.Object, *keys_: bytes) -> pikepdf.Object:
         if key in made:
             del made[key]
     return made
+
+
+def readable(stream: pikepdf.Object, where: str) -> bytes:
+    """Returns a stream's decoded bytes."""
+    try:
+        return bytes(stream.read_bytes())
+    except pikepdf.PdfError as error:
+        raise Unreadable("damaged", f"damaged: {where} can't be decoded: {error}") from None

@@ -31,11 +31,12 @@ from pressroom.reading.objects import (
     items,
     name,
     number,
+    readable,
 )
 from pressroom.reading.optional import Optional
 from pressroom.reading.resources import Resources
 from pressroom.reading.spaces import Blacks
-from pressroom.reading.walk import Walk, readable
+from pressroom.reading.walk import Walk
 
 sys.pycache_prefix = None
 
@@ -57,7 +58,10 @@ class Read(TypedDict):
     lab: bool
     white: bool
     blending: bool
-    strips: bool
+    blends: bool
+    overprints: bool
+    spots: list[str]
+    transfers: bool
     fonts: list[str]
     edited: bool
 
@@ -92,7 +96,10 @@ class Page:
             "lab": lab,
             "white": self.walk.colours.white,
             "blending": facts.rgb_groups,
-            "strips": not facts.blends and not facts.overprints and len(facts.spots) < 2,
+            "blends": facts.blends,
+            "overprints": facts.overprints,
+            "spots": sorted(word[1:].decode("latin-1") for word in facts.spots),
+            "transfers": facts.transfers,
             "fonts": sorted(self.walk.fonts),
             "edited": self.changed,
         }
@@ -179,7 +186,11 @@ def read(path: str, blacks: Blacks) -> Read:
         if found["edited"]:
             if found["count"] > 1:
                 del pdf.pages[1:]
-            pdf.save("edited.pdf", compress_streams=False, stream_decode_level=pikepdf.StreamDecodeLevel.none)
+            plain = pikepdf.StreamDecodeLevel.none
+            # The part of pikepdf that changes metadata isn't loaded.
+            pdf.save(
+                "edited.pdf", compress_streams=False, fix_metadata_version=False, stream_decode_level=plain
+            )
     return found
 
 

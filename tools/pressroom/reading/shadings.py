@@ -8,6 +8,7 @@ from collections.abc import Callable
 import numpy as np
 import pikepdf
 
+from pressroom.reading.boxes import box_of, clipped
 from pressroom.reading.functions import Function, Values, function_of, of_samples, pairs
 from pressroom.reading.meshes import grey_mesh, lattice
 from pressroom.reading.objects import (
@@ -55,18 +56,16 @@ class Shadings:
         domain = numbers(get(shading, b"/Domain")) or (0.0, 1.0, 0.0, 1.0)
         matrix = numbers(get(shading, b"/Matrix")) or (1.0, 0.0, 0.0, 1.0, 0.0, 0.0)
         function = function_of(get(shading, b"/Function"))
-        if (
-            len(domain) != 4
-            or len(matrix) != 6
-            or len(function.domain) != 2
-            or get(shading, b"/BBox") is not None
-        ):
+        if len(domain) != 4 or len(matrix) != 6 or len(function.domain) != 2:
             raise Unreadable("damaged", "damaged: a shading by a function has a malformed domain or matrix")
-        kept = {b"/ColorSpace": get(shading, b"/ColorSpace"), b"/Background": get(shading, b"/Background")}
+        kept = {key: get(shading, key) for key in (b"/ColorSpace", b"/Background", b"/BBox")}
         if matrix == (1.0, 0.0, 0.0, 1.0, 0.0, 0.0):
             for axis in (0, 1):
                 if is_constant(function, domain, 1 - axis):
-                    return filled(self.axial(function, domain, axis), kept)
+                    made, box = filled(self.axial(function, domain, axis), kept), box_of(kept[b"/BBox"])
+                    area = domain[0], domain[2], domain[1], domain[3]
+                    made[b"/BBox"] = [*(clipped(box, area) if box else area)]
+                    return made
         cells = CELLS if is_close(function, domain, CELLS) else MORE_CELLS
         return filled(
             lattice(self.pdf, grid(function, domain, cells), domain, matrix, limits_of(shading)), kept
@@ -81,7 +80,7 @@ class Shadings:
         places[1 - axis] = lower if axis == 0 else left
         coords = [left, 0, right, 0] if axis == 0 else [0, lower, 0, upper]
         return pikepdf.Dictionary(
-            ShadingType=2, Coords=coords, Domain=[low, high], BBox=[left, lower, right, upper],
+            ShadingType=2, Coords=coords, Domain=[low, high],
             Function=of_samples(self.pdf, function(places), (low, high)),
         )  # fmt: skip
 

@@ -49,7 +49,10 @@ def packed_zeros(count: int) -> bytes:
 class StripFile:
     """A TIFF file that is being written. In ink and in bits, 0 is bare."""
 
-    def __init__(self, path: str, width: int, height: int, planes: int) -> None:
+    def __init__(
+        self, path: str, width: int, height: int, planes: int, photometric: int | None = None
+    ) -> None:
+        photometric = (5 if planes == 4 else 0) if photometric is None else photometric
         self.path, self.height, self.planes = path, height, planes
         self.strips = -(-height // STRIP)
         self.row = width if planes == 4 else (width + 7) // 8
@@ -60,7 +63,7 @@ class StripFile:
             raise OSError(None, "can't be written", path)
         for tag, value in (
             (WIDTH, width), (LENGTH, height), (BITS, 8 if planes == 4 else 1), (COMPRESSION, PACKBITS),
-            (PHOTOMETRIC, 5 if planes == 4 else 0), (SAMPLES, planes), (ROWS, STRIP),
+            (PHOTOMETRIC, photometric), (SAMPLES, planes), (ROWS, STRIP),
             (PLANAR, 2 if planes == 4 else 1), *([(INK_SET, 1)] if planes == 4 else []),
         ):  # fmt: skip
             library().TIFFSetField(ctypes.c_void_p(self.file), ctypes.c_uint32(tag), ctypes.c_int(value))
