@@ -147,8 +147,7 @@ def main():
         for name, command in commands(folder).items():
             if not names or name in names:
                 tries(tried, shim, folder, name, command)
-    print(f"{tried.passed} passed, {tried.failed} failed")
-    return 1 if tried.failed else 0
+    return tried.end()
 
 
 if __name__ == "__main__":

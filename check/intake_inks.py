@@ -13,7 +13,8 @@ from typing import Any
 
 from intake_ink_pages import BARE, CUBED, EVERYWHERE, KINDS, TRANSFORMS, Ink, Page, jpeg, power, spot
 from intake_pages import HOUSE, PROFILE, Pages, fields, intake, plates_of
-from newspaper import NEWSPAPER, TOP, Results
+from newspaper import NEWSPAPER, TOP
+from trial import Count
 
 sys.path[:0] = [NEWSPAPER, os.path.join(TOP, "tools")]
 from pdf import Pdf
@@ -119,7 +120,7 @@ def is_near(got: list[float], wanted: Ink) -> bool:
     return all(abs(one - other) <= NEAR for one, other in zip(got, wanted))
 
 
-def see_kind(results: Results, folder: str, kind: str, dpi: int) -> None:
+def see_kind(results: Count, folder: str, kind: str, dpi: int) -> None:
     """Tests the pages of a kind at a resolution."""
     made = [
         (name + (" beside overprint" if overprints else ""), page, overprints)
@@ -201,7 +202,7 @@ def noise(pages: Pages, name: str, width: int, height: int, tints: int = 1) -> N
     pdf.write(pages.path(name), pdf.add(f"<< /Type /Catalog /Pages {number + 1} 0 R >>"))
 
 
-def see_bands(results: Results, program: str, folder: str) -> None:
+def see_bands(results: Count, program: str, folder: str) -> None:
     """Tests that a page whose file is too large is cut into bands, and that its plates are the same."""
     plates, plans = [], []
     for name, band in (("whole", 256_000_000), ("bands", BAND)):
@@ -237,7 +238,7 @@ def see_bands(results: Results, program: str, folder: str) -> None:
     see_layers(results, folder)
 
 
-def see_layers(results: Results, folder: str) -> None:
+def see_layers(results: Count, folder: str) -> None:
     """Tests that a page that needs more than 32 layers is refused: 15 bands, and 17 or 18 tints."""
     pages = Pages(folder, "layers")
     for number, tints in ((1, 17), (2, 18)):
@@ -260,7 +261,7 @@ def sums(folder: str) -> dict[str, str]:
     return found
 
 
-def see_refusing(results: Results, folder: str) -> None:
+def see_refusing(results: Count, folder: str) -> None:
     """Tests a house that refuses spots: those that show, and not those that only All paints, or nothing."""
     dpi, made = 127, [EVERYWHERE["All beside an unused spot"], NOTHING, TRANSFORMS["type 2"], EVERYWHERE["All in a form"]]
     pages = Pages(folder, "inks-refusing", count=len(made))
@@ -276,7 +277,7 @@ def see_refusing(results: Results, folder: str) -> None:
         results.see(is_near(got, page.cells[0][1]), f"a house that refuses spots: {got}, and not {page.cells[0][1]}")
 
 
-def see_files(results: Results, folder: str) -> None:
+def see_files(results: Count, folder: str) -> None:
     """Tests pages whose file is written otherwise: locked for changes, resources that the page inherits, and an
     annotation.
     """
@@ -324,7 +325,7 @@ def annotated(path: str) -> None:
         pdf.save(path)
 
 
-def see_inks(results: Results, folder: str) -> None:
+def see_inks(results: Count, folder: str) -> None:
     """Tests all kinds at all resolutions."""
     see_refusing(results, folder)
     see_files(results, folder)
@@ -336,11 +337,11 @@ def see_inks(results: Results, folder: str) -> None:
 if __name__ == "__main__":
     import tempfile
 
-    results = Results()
+    results = Count()
     with tempfile.TemporaryDirectory(prefix="plateroom-inks-") as place:
         for kind in sys.argv[2:] or KINDS:
             see_kind(results, place, kind, int(sys.argv[1]))
         if not sys.argv[2:]:
             see_refusing(results, place)
             see_files(results, place)
-    results.end()
+    sys.exit(results.end())

@@ -155,7 +155,7 @@ class Late:
         )
         self.wanted = self.paper.plates(self.tried.program, self.work)
         self.holds(
-            "killed, status", answer.returncode == 0 and "retry: site TROMSO alone" in answer.stdout, answer
+            "killed, status", answer.returncode == 0 and "retry: site TROMSO alone" in answer.stderr, answer
         )
         self.tried.holds("late, killed, READY", faults_of_ready(self.current(), self.wanted, SITES))
         self.holds(

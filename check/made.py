@@ -98,7 +98,7 @@ class Make:
             answer, report = self.makes(word, 0, SITES)
             retried = [site for site in SITES if report["sites"][site]["retried"]]
             self.holds(f"{word}, retried", retried == ["TROMSO"], report["sites"])
-            self.holds(f"{word}, why", why in answer.stdout, answer.stdout)
+            self.holds(f"{word}, why", why in answer.stderr, answer.stderr)
 
     def leaves(self):
         """A site that fails twice isn't READY, the others are, and `current` stays; --resume makes that
@@ -126,7 +126,7 @@ class Make:
         os.rename(path, path + ".away")
         answer, report = self.makes("no file", 4, [], current=False)
         line = "north: fault: A3-text.tif (line): is missing or can't be read; page A3 layer 0"
-        self.holds("no file, line", line in report["refused"] and line in answer.stdout, report)
+        self.holds("no file, line", line in report["refused"] and line in answer.stderr, report)
         os.rename(path + ".away", path)
         for name, text in (("wrong", "{"), ("again", json.dumps(dict(self.paper.plans("MORNING"))["north"]))):
             with open(os.path.join(self.work, f"{name}.json"), "w", encoding="utf-8") as file:

@@ -16,25 +16,11 @@ import subprocess
 import sys
 import tempfile
 
+from trial import Count
+
 TOP = os.path.join(os.path.dirname(os.path.abspath(__file__)), "..")
 NEWSPAPER = os.path.join(TOP, "examples", "newspaper")
 INKS = "CMYKS"
-
-
-class Results:
-    def __init__(self):
-        self.passed = self.failed = 0
-
-    def see(self, right, words):
-        if right:
-            self.passed += 1
-        else:
-            self.failed += 1
-            print(f"failed: {words}")
-
-    def end(self):
-        print(f"{self.passed} passed, {self.failed} failed")
-        sys.exit(1 if self.failed else 0)
 
 
 def missing(*libraries):
@@ -271,7 +257,7 @@ def see_tools(results, program, edition, folder):
 def main():
     if len(sys.argv) != 2:
         sys.exit(__doc__.splitlines()[2].strip())
-    program, results = sys.argv[1], Results()
+    program, results = sys.argv[1], Count()
     spec = importlib.util.spec_from_file_location("make", os.path.join(NEWSPAPER, "make.py"))
     sys.path.insert(0, NEWSPAPER)
     sys.dont_write_bytecode = True
@@ -298,7 +284,7 @@ def main():
             see_names(results, edition)
             see_sites(results, edition)
             see_tools(results, program, edition, folder)
-    results.end()
+    sys.exit(results.end())
 
 
 if __name__ == "__main__":

@@ -71,8 +71,7 @@ def main():
             else:
                 with tempfile.TemporaryDirectory(prefix=f"{name}-", dir=folder) as its:
                     part(tried, paper, its)
-    print(f"{tried.passed} passed, {tried.failed} failed")
-    return 1 if tried.failed else 0
+    return tried.end()
 
 
 if __name__ == "__main__":

@@ -331,8 +331,7 @@ def main():
         with mounted(root):
             old_version = said("dpkg-deb", "-f", old, "Version").strip().removesuffix("-1")
             try_all(trial, root, (old, old_version), new, version)
-    print(f"{trial.passed} passed, {trial.failed} failed")
-    return 1 if trial.failed else 0
+    return trial.end()
 
 
 if __name__ == "__main__":

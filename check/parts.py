@@ -240,8 +240,7 @@ def main():
             by_chance(tried, folder, files, int(sys.argv[2]) if len(sys.argv) == 3 else 200)
         except trial.Hangs:
             tried.holds("the trials end", "too many runs weren't done in time")
-    print(f"{tried.passed} passed, {tried.failed} failed")
-    return 1 if tried.failed else 0
+    return tried.end()
 
 
 if __name__ == "__main__":

@@ -199,8 +199,7 @@ def main():
             trials(tried, folder)
         except trial.Hangs:
             tried.holds("the trials end", "too many runs weren't done in time")
-    print(f"{tried.passed} passed, {tried.failed} failed")
-    return 1 if tried.failed else 0
+    return tried.end()
 
 
 if __name__ == "__main__":

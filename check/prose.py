@@ -19,6 +19,8 @@ import sys
 import tempfile
 
 sys.dont_write_bytecode = True
+from trial import Count
+
 
 TOP = os.path.abspath(os.path.join(os.path.dirname(os.path.abspath(__file__)), ".."))
 
@@ -230,20 +232,6 @@ def command_faults(path, lines, package):
                 yield number, f"the package has no file /usr/share/{place}/{name}"
 
 
-class Count:
-    """Faults as they are found, and how many pairs of a file and a rule had none."""
-
-    def __init__(self):
-        self.passed, self.failed = 0, 0
-
-    def rule(self, path, faults):
-        faults = list(faults)
-        for number, fault in faults:
-            print(f"{path}:{number}: {fault}")
-        self.passed += not faults
-        self.failed += bool(faults)
-
-
 # Each rule, lines of a document in which it must find one fault, and lines in which it must find none.
 SAMPLES = (
     ("words", word_faults, ["It takes half as", "much again."],
@@ -307,8 +295,7 @@ def main():
     for path in (path for pattern in PROGRAMS for path in fnmatch.filter(tracked, pattern)):
         if os.path.exists(os.path.join(TOP, path)):
             count.rule(path, head_faults(path, "\n".join(lines_of(path))))
-    print(f"{count.passed} passed, {count.failed} failed")
-    return 1 if count.failed else 0
+    return count.end()
 
 
 if __name__ == "__main__":

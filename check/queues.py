@@ -288,8 +288,7 @@ def main():
                 continue
             with slurm() if name == "slurm" else contextlib.nullcontext():
                 Engine(tried, folder, name, news).trials()
-    print(f"{tried.passed} passed, {tried.failed} failed")
-    return 1 if tried.failed else 0
+    return tried.end()
 
 
 if __name__ == "__main__":

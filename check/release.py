@@ -132,6 +132,8 @@ def try_files(trial, root, program, folder):
         asked = subprocess.run(["sh", "-n", path], capture_output=True, text=True)
         trial.holds(name, asked.returncode and asked.stderr)
     for path in said("git", "-C", TOP, "ls-tree", "-r", "-z", "--name-only", "HEAD", "tools").split("\0"):
+        if path.startswith("tools/tests/"):
+            continue
         there = os.path.exists(os.path.join(root, "usr/share/plateroom", path))
         trial.holds(path, not there and not path.endswith(".gitignore") and "the package hasn't it")
 
@@ -179,8 +181,12 @@ def try_pages(trial, root, commands):
     unknown = set(re.findall(r"^pressroom ([a-z]+)", source, re.MULTILINE)) - set(commands)
     trial.holds("pressroom(1): examples", unknown and f"no commands: {unknown}")
     for name in commands:
-        there = f'.SS "{name}"' in page or f".SS {name}\n" in page
-        trial.holds(f"pressroom(1) on {name}", not there and "it has no section")
+        trial.holds(f"pressroom(1) on {name}", f"pressroom-{name}" not in page.replace("\\-", "-") and "it isn't named")
+        with gzip.open(os.path.join(root, f"usr/share/man/man1/pressroom-{name}.1.gz"), "rt") as file:
+            own = file.read().replace("\\-", "-")
+        told = said(os.path.join(root, "usr/bin/pressroom"), name, "--help")
+        lacks = [word for word in set(re.findall(r"(?<![\w-])--[a-z][a-z-]*", told)) if word not in own]
+        trial.holds(f"pressroom-{name}(1)", lacks and f"it lacks {lacks}")
     for name in PAGES if shutil.which("man") else ():
         path = os.path.join(root, "usr/share/man", f"{name}.gz")
         asked = "man", "--warnings", "-E", "UTF-8", "-l", "-Tutf8", "-Z", path
@@ -217,7 +223,8 @@ def try_completion(trial, root, commands):
     offers(["newspaper", "queue", "tiles"], "plateroom", "replate", "a.json", "art", "b.json", "")
     offers(["ramp.tif"], "plateroom", "one", "ra")
     offers([], "plateroom", "keys", "a.json", "art", "out", "")
-    offers(commands, "pressroom", "")
+    offers([*commands, "help"], "pressroom", "")
+    offers(commands, "pressroom", "help", "")
     offers(["section", "site", "both"], "pressroom", "parts", "--by", "")
     pressroom = os.path.join(root, "usr/bin/pressroom")
     for name in commands:
@@ -334,8 +341,7 @@ def main():
     left_out += [] if os.path.exists(COMPLETION) else ["bash-completion"]
     if left_out:
         print(f"left out, since not installed: {', '.join(left_out)}")
-    print(f"{trial.passed} passed, {trial.failed} failed")
-    return 1 if trial.failed else 0
+    return trial.end()
 
 
 if __name__ == "__main__":

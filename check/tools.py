@@ -20,7 +20,8 @@ import sys
 import tempfile
 
 sys.dont_write_bytecode = True
-from newspaper import Plate, Results, missing
+from newspaper import Plate, missing
+from trial import Count
 
 TOP = os.path.join(os.path.dirname(os.path.abspath(__file__)), "..")
 EXAMPLES, TOOLS = os.path.join(TOP, "examples"), os.path.join(TOP, "tools")
@@ -859,12 +860,12 @@ def see_help(results):
 def main():
     if len(sys.argv) != 2:
         sys.exit(__doc__.splitlines()[2].strip())
-    program, results = os.path.abspath(sys.argv[1]), Results()
+    program, results = os.path.abspath(sys.argv[1]), Count()
     for see in (see_schema, see_check, see_proof, see_tiles):
         with tempfile.TemporaryDirectory(prefix="plateroom-tools-") as folder:
             see(results, program, folder)
     see_help(results)
-    results.end()
+    sys.exit(results.end())
 
 
 if __name__ == "__main__":

@@ -1,4 +1,4 @@
-"""Runs the program and counts what held."""
+"""Counts what held, for every check, and runs the program."""
 import os
 import resource
 import signal
@@ -17,12 +17,11 @@ class Hangs(Exception):
     """Too many runs didn't end in time, so no more are made."""
 
 
-class Trial:
-    """The program under test, and how much held."""
+class Count:
+    """How many tests held, and how many of a part."""
 
-    def __init__(self, program):
-        self.program, self.passed, self.failed = os.path.abspath(program), 0, 0
-        self.begun, self.before, self.hangs = time.monotonic(), (0, 0), 0
+    def __init__(self):
+        self.passed, self.failed, self.before, self.begun = 0, 0, (0, 0), time.monotonic()
 
     def holds(self, what, fault):
         """Counts one test. A fault is what is wrong, or nothing."""
@@ -32,12 +31,41 @@ class Trial:
         else:
             self.passed += 1
 
+    def see(self, right, words):
+        """Counts one test. The words say what is seen where it isn't right."""
+        if right:
+            self.passed += 1
+        else:
+            self.failed += 1
+            print(f"FAILED: {words}", flush=True)
+
+    def rule(self, path, faults):
+        """Counts one test of a file, whose faults are pairs of a line and a text."""
+        faults = list(faults)
+        for number, fault in faults:
+            print(f"{path}:{number}: {fault}")
+        self.passed += not faults
+        self.failed += bool(faults)
+
+    def end(self):
+        """Prints the count, which is the last line of every check, and returns the check's status."""
+        print(f"{self.passed} passed, {self.failed} failed")
+        return 1 if self.failed else 0
+
     def part(self, name):
         """Prints how many tests of a part held."""
         passed, failed = self.passed - self.before[0], self.failed - self.before[1]
         seconds = time.monotonic() - self.begun
         print(f"{name}: {passed} of {passed + failed}, {seconds:.1f} s since the beginning", flush=True)
         self.before = self.passed, self.failed
+
+
+class Trial(Count):
+    """The program under test, and how much held."""
+
+    def __init__(self, program):
+        super().__init__()
+        self.program, self.hangs = os.path.abspath(program), 0
 
     def answers(self, words, status, out, note, where="", **how):
         """The program ends with this status and writes exactly this to its two streams."""

@@ -21,7 +21,8 @@ import time
 
 sys.dont_write_bytecode = True
 from browser import MIDDLE, Keys, Page, drag, touch
-from newspaper import Results, missing
+from newspaper import missing
+from trial import Count
 from two_sites import EXAMPLES, LENGTH, TOP, WIDTH, earlier, edition, plates_of, run
 
 try:
@@ -539,7 +540,7 @@ def see_damage(results, page, folder, plan, plates):
         file.write(data[:8] + bytes([128]) * 3000 + data[3008:])
     with open(os.path.join(hurt, "OSLO", "E1-A-002-K.tif"), "r+b") as file:
         file.write(b"II*\0\0\0\0\0")
-    status, said, _ = tool(hurt, out, "--plan", plan, "--spot", "18,120,60", "--jobs", 2)
+    status, _, said = tool(hurt, out, "--plan", plan, "--spot", "18,120,60", "--jobs", 2)
     faults = [line for line in said.splitlines() if line.startswith("fault: ")]
     results.see(status == 1 and len(faults) == 2, f"damaged plates: {status}, {said}")
     results.see(
@@ -606,10 +607,10 @@ def lacking():
 def main():
     if len(sys.argv) != 2:
         sys.exit(__doc__.splitlines()[2].strip())
-    results, lacks = Results(), lacking()
+    results, lacks = Count(), lacking()
     if lacks:
         print(f"skipped: the proof in the browser ({', '.join(lacks)} isn't installed)")
-        results.end()
+        sys.exit(results.end())
     with tempfile.TemporaryDirectory(prefix="plateroom-web-") as folder:
         plan, plates = run(sys.argv[1], folder, "new", edition())
         _, old = run(sys.argv[1], folder, "old", earlier())
@@ -647,7 +648,7 @@ def main():
             results.see(not complaints, f"the browser complains: {complaints[:3]}")
         finally:
             page.driver.quit()
-    results.end()
+    sys.exit(results.end())
 
 
 if __name__ == "__main__":

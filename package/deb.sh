@@ -38,7 +38,7 @@ programs() {
   # Python takes a script's modules from the folder in which the script itself is, behind all links.
   ln -s ../share/plateroom/tools/pressroom.py "$root/usr/bin/pressroom"
   # pressroom runs the scripts of examples/queue, and must not depend on a file below /usr/share/doc.
-  copy "$own" tools examples/queue
+  copy "$own" tools ':!:tools/tests' examples/queue
   # The documents name files of tools/ as seen from the examples.
   ln -s ../../plateroom/tools "$docs/tools"
 }
@@ -50,6 +50,9 @@ man_pages() {
     section=$root/usr/share/man/man${name##*.}
     install -d "$section"
     /usr/bin/python3 package/page.py "$page" "$version" | scdoc | gzip -9nc > "$section/$name.gz"
+  done
+  for name in $(/usr/bin/python3 package/table.py commands); do
+    /usr/bin/python3 package/table.py man "$name" "$version" | scdoc | gzip -9nc > "$root/usr/share/man/man1/pressroom-$name.1.gz"
   done
 }
 
@@ -64,12 +67,22 @@ documents() {
   done | gzip -9nc > "$docs/changelog.Debian.gz"
 }
 
+# Writes pressroom's completion of a shell below /usr/share.
+completion_of() { # SHELL PATH
+  install -d "$root/usr/share/$(dirname "$2")"
+  /usr/bin/python3 package/table.py "$1" > "$root/usr/share/$2"
+  chmod 644 "$root/usr/share/$2"
+}
+
 # Units are installed, and neither enabled nor started.
 integration() {
   local file name
   for file in package/completion/*; do
     install -D -m 644 "$file" "$root/usr/share/bash-completion/completions/$(basename "$file")"
   done
+  completion_of bash bash-completion/completions/pressroom
+  completion_of zsh zsh/vendor-completions/_pressroom
+  completion_of fish fish/vendor_completions.d/pressroom.fish
   git ls-files -z -- package/systemd | while read -r -d '' file; do
     name=$(basename "$file")
     case $name in

@@ -2,7 +2,7 @@
 """The same as `pressroom check`."""
 import sys
 
-from pressroom.commands.check import main
+from pressroom.front import main
 
 if __name__ == "__main__":
-    sys.exit(main())
+    sys.exit(main(["check", *sys.argv[1:]]))

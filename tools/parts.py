@@ -2,7 +2,7 @@
 """The same as `pressroom parts`."""
 import sys
 
-from pressroom.commands.parts import main
+from pressroom.front import main
 
 if __name__ == "__main__":
-    sys.exit(main())
+    sys.exit(main(["parts", *sys.argv[1:]]))

@@ -2,7 +2,7 @@
 """The same as `pressroom proof`."""
 import sys
 
-from pressroom.commands.proof import main
+from pressroom.front import main
 
 if __name__ == "__main__":
-    sys.exit(main())
+    sys.exit(main(["proof", *sys.argv[1:]]))

@@ -2,7 +2,7 @@
 """The same as `pressroom tile`."""
 import sys
 
-from pressroom.commands.tile import main
+from pressroom.front import main
 
 if __name__ == "__main__":
-    sys.exit(main())
+    sys.exit(main(["tile", *sys.argv[1:]]))

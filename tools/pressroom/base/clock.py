@@ -1,15 +1,24 @@
 """Elapsed time, also when the clock is set back: a stamp has the boot and its monotonic clock besides the
 hour."""
 import time
+from typing import Any, TypedDict
 
 
-def boot():
+class Stamp(TypedDict):
+    """A time: the machine's boot, its monotonic clock in seconds, and the hour in seconds."""
+
+    boot: str
+    uptime: float
+    hour: float
+
+
+def boot() -> str:
     """The name of this boot of the machine."""
     with open("/proc/sys/kernel/random/boot_id", encoding="ascii") as file:
         return file.read().strip()
 
 
-def stamp():
+def stamp() -> Stamp:
     """The current time, to be kept in a file."""
     return {
         "boot": boot(),
@@ -18,7 +27,7 @@ def stamp():
     }
 
 
-def elapsed(before):
+def elapsed(before: Any) -> float | None:
     """The seconds since a stamp: by the monotonic clock of this boot, otherwise by the hour. None if there is no stamp,
     or if it is in the future, so that the time is unknown."""
     try:
@@ -31,7 +40,7 @@ def elapsed(before):
     return seconds if seconds >= 0 else None
 
 
-def left(before, pause):
+def left(before: Any, pause: float) -> float:
     """The seconds until a pause since a stamp is over, 0 if it is over or unknown."""
     seconds = elapsed(before)
     return 0 if seconds is None else max(0, pause - seconds)
@@ -40,21 +49,21 @@ def left(before, pause):
 class Attempts:
     """Failed attempts, kept in a state: each pause is twice as long as the one before, up to the longest."""
 
-    def __init__(self, kept, first, longest, most):
+    def __init__(self, kept: dict[str, Any], first: float, longest: float, most: int) -> None:
         self.kept, self.first, self.longest, self.most = kept, first, longest, most
 
-    def failed(self):
+    def failed(self) -> None:
         """Records one more failed attempt."""
         self.kept["tries"] = self.kept.get("tries", 0) + 1
         self.kept["at"] = stamp()
 
-    def wait(self):
+    def wait(self) -> float:
         """The seconds until the next attempt."""
-        tries = self.kept.get("tries", 0)
+        tries = int(self.kept.get("tries", 0))
         return (
             left(self.kept.get("at"), min(self.longest, self.first * 2 ** min(tries - 1, 30))) if tries else 0
         )
 
-    def over(self):
+    def over(self) -> bool:
         """Whether no attempts are left."""
-        return self.kept.get("tries", 0) >= self.most
+        return int(self.kept.get("tries", 0)) >= self.most

@@ -5,6 +5,7 @@ import fcntl
 import hashlib
 import os
 import shutil
+from typing import ClassVar
 
 PART = ".part"
 # Errors of a file system without hard links or with no room for one more, or of a link between two.
@@ -15,7 +16,7 @@ class Busy(Exception):
     """Another process holds the lock; the text names its file."""
 
 
-def sync_folder(path):
+def sync_folder(path: str) -> None:
     """Syncs a folder, so that the names in it survive a loss of power."""
     handle = os.open(path or ".", os.O_RDONLY | os.O_DIRECTORY)
     try:
@@ -24,13 +25,13 @@ def sync_folder(path):
         os.close(handle)
 
 
-def part_of(path):
+def part_of(path: str) -> str:
     """The name under which a file is written until it is complete: hidden, and this process's own."""
     folder, name = os.path.split(path)
     return os.path.join(folder, f".{name}.{os.getpid()}{PART}")
 
 
-def write_whole(path, data):
+def write_whole(path: str, data: bytes) -> None:
     """Writes a file: it has its old bytes or the new ones at any moment."""
     part = part_of(path)
     try:
@@ -45,7 +46,19 @@ def write_whole(path, data):
     sync_folder(os.path.dirname(path))
 
 
-def copy_whole(source, target):
+def write_changed(path: str, data: bytes) -> bool:
+    """Writes a file, unless it has these bytes: what is made of it stays newer. Returns whether it wrote."""
+    try:
+        with open(path, "rb") as file:
+            if file.read() == data:
+                return False
+    except FileNotFoundError:
+        pass
+    write_whole(path, data)
+    return True
+
+
+def copy_whole(source: str, target: str) -> None:
     """Copies a file with its times: the name has its old bytes or all of the new ones at any moment."""
     part = part_of(target)
     os.makedirs(os.path.dirname(target), exist_ok=True)
@@ -61,7 +74,7 @@ def copy_whole(source, target):
     sync_folder(os.path.dirname(target))
 
 
-def link_or_copy(source, target):
+def link_or_copy(source: str, target: str) -> None:
     """Gives a file a second, new name: a hard link, or a copy where hard links are impossible."""
     try:
         os.link(source, target)
@@ -71,7 +84,7 @@ def link_or_copy(source, target):
         copy_whole(source, target)
 
 
-def remove(path):
+def remove(path: str) -> None:
     """Removes a file, a link or a folder with its contents; a missing one is no fault."""
     try:
         os.remove(path)
@@ -81,7 +94,7 @@ def remove(path):
         pass
 
 
-def move_link(path, target):
+def move_link(path: str, target: str) -> None:
     """Points a symbolic link at a new target: at any moment it leads to the old or the new one."""
     part = part_of(path)
     remove(part)
@@ -90,7 +103,7 @@ def move_link(path, target):
     sync_folder(os.path.dirname(path))
 
 
-def sha256(path):
+def sha256(path: str) -> str:
     """The SHA-256 of a file, in hexadecimal digits."""
     with open(path, "rb") as file:
         return hashlib.file_digest(file, "sha256").hexdigest()
@@ -103,12 +116,12 @@ class Lock:
     `held` has the handles that they inherit. `remove` removes the file while it is held.
     """
 
-    held = set()
+    held: ClassVar[set[int]] = set()
 
-    def __init__(self, path):
+    def __init__(self, path: str) -> None:
         self.path = path
 
-    def __enter__(self):
+    def __enter__(self) -> "Lock":
         while True:
             self.file = open(self.path, "a", encoding="ascii")
             try:
@@ -121,16 +134,17 @@ class Lock:
                 return self
             self.file.close()
 
-    def is_named(self):
+    def is_named(self) -> bool:
         """Whether the locked file still has its name: the previous holder may have removed it."""
         try:
             return os.path.samestat(os.fstat(self.file.fileno()), os.stat(self.path))
         except FileNotFoundError:
             return False
 
-    def remove(self):
+    def remove(self) -> None:
+        """Removes the file while it is held."""
         os.remove(self.path)
 
-    def __exit__(self, *error):
+    def __exit__(self, *error: object) -> None:
         Lock.held.discard(self.file.fileno())
         self.file.close()

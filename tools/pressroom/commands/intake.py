@@ -1,4 +1,4 @@
 """The command `pressroom intake`."""
-from pressroom.intake.intake import main
+from pressroom.intake.intake import main, parser
 
-__all__ = ["main"]
+__all__ = ["main", "parser"]

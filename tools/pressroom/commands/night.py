@@ -1,4 +1,4 @@
 """The command `pressroom night`."""
-from pressroom.night.night import main
+from pressroom.night.night import main, parser
 
-__all__ = ["main"]
+__all__ = ["main", "parser"]

@@ -1,26 +1,21 @@
-"""Writes a tile of clustered dots, turned by an angle, for the list `tiles` of an edition plan.
+"""Tiles of clustered dots, turned by an angle: which there are, the nearest to an angle and a ruling, and the
+thresholds of one.
 
-The dots of a tile must continue from tile to tile, so only some angles and rulings are available. The nearest
-tile is written to standard output, and its real angle and ruling to standard error. A tile of side N with
-dots at (A, B) steps has A * A + B * B dots, the angle atan(B / A), and dpi * sqrt(A * A + B * B) / N lines an
-inch. The angle counts clockwise from the plate's upper edge. Thresholds range from 0 to 254, so that full ink
-is solid. Needs only Python.
-
-status: 0 the tile is written; 1 no tile is near enough; 2 the arguments are wrong, or a file can't be written
+The dots of a tile must continue from tile to tile, so only some angles and rulings are available. A tile of side N
+with dots at (A, B) steps has A * A + B * B dots, the angle atan(B / A), and dpi * sqrt(A * A + B * B) / N lines an
+inch. The angle counts clockwise from the plate's upper edge. Thresholds range from 0 to 254, so that full ink is
+solid.
 """
-import argparse
 import math
-import re
 import struct
-import sys
 import zlib
+from collections.abc import Callable
 
 MOST = 64
 # How far a tile may differ: in degrees, and as a part of the ruling.
 OFF_ANGLE, OFF_RULING = 3.0, 0.05
-SHOWN = 10
 # How early a position prints, by its part of the way to the next dot in both directions (0 and 1 are dots).
-DOTS = {
+DOTS: dict[str, Callable[[float, float], float]] = {
     "round": lambda u, v: math.cos(2 * math.pi * u) + math.cos(2 * math.pi * v),
     "ellipse": lambda u, v: 1.2 * math.cos(2 * math.pi * u) + 0.8 * math.cos(2 * math.pi * v),
     "line": lambda u, v: 0.02 * math.cos(2 * math.pi * u) + math.cos(2 * math.pi * v),
@@ -30,35 +25,39 @@ DOTS = {
 class Grid:
     """A tile's side and the steps of its dots."""
 
-    def __init__(self, side, a, b):
+    def __init__(self, side: int, a: int, b: int) -> None:
         self.side, self.a, self.b = side, a, b
         self.count = a * a + b * b
         self.angle = math.degrees(math.atan2(b, a))
         self.cell = side / math.sqrt(self.count)
 
-    def off(self, angle, ruling, dpi):
+    def off(self, angle: float, ruling: float, dpi: float) -> tuple[float, float]:
         """Returns the difference from the wanted tile: in degrees, and as a part of the ruling."""
         turn = abs(self.angle - angle) % 90
         return min(turn, 90 - turn), abs(dpi / self.cell / ruling - 1)
 
-    def line(self, dpi):
+    def line(self, dpi: float) -> str:
+        """Returns what a person wants to know of the tile."""
         return (
             f"side {self.side}, steps {self.a},{self.b}: {self.angle:.1f} degrees, {dpi / self.cell:.1f} "
             f"lines an inch at {dpi} dpi, {self.count} dots, {min(256, self.side ** 2 + 1)} tones"
         )
 
-    def dot_of(self, x, y):
+    def dot_of(self, x: int, y: int) -> tuple[int, int]:
         """Returns the dot that a pixel belongs to, by its position in units of side / count."""
         i = ((2 * x + 1) * self.a + (2 * y + 1) * self.b + self.side) // (2 * self.side)
         j = ((2 * y + 1) * self.a - (2 * x + 1) * self.b + self.side) // (2 * self.side)
         return (i * self.a - j * self.b) % self.count, (i * self.b + j * self.a) % self.count
 
-    def order(self):
+    def order(self) -> dict[tuple[int, int], int]:
         """Returns the order in which the dots begin, each as far as possible from those before it."""
-        away = {self.dot_of(x, y): math.inf for y in range(self.side) for x in range(self.side)}
-        order = {}
+
+        away: dict[tuple[int, int], float] = {
+            self.dot_of(x, y): math.inf for y in range(self.side) for x in range(self.side)
+        }
+        order: dict[tuple[int, int], int] = {}
         while away:
-            dot = max(away, key=away.get)
+            dot = max(away, key=lambda one: away[one])
             del away[dot]
             order[dot] = len(order)
             for other in away:
@@ -67,10 +66,11 @@ class Grid:
         return order
 
 
-def thresholds(grid, dot):
+def thresholds(grid: Grid, dot: str) -> list[int]:
     """Returns the thresholds of the tile, row by row."""
     dark, side, order = DOTS[dot], grid.side, grid.order()
-    ranked, met = [], {}
+    ranked: list[tuple[float, int, int, int]] = []
+    met: dict[tuple[float, tuple[int, int]], int] = {}
     for y in range(side):
         for x in range(side):
             u = ((2 * x + 1) * grid.a + (2 * y + 1) * grid.b) / (2 * side)
@@ -85,9 +85,9 @@ def thresholds(grid, dot):
     return at
 
 
-def nearest(angle, ruling, dpi, largest):
+def nearest(angle: float, ruling: float, dpi: float, largest: int) -> list[Grid]:
     """Returns the grids, nearest first; of equally near ones, the smaller first."""
-    found = {}
+    found: dict[tuple[float, float], tuple[tuple[float, int], Grid]] = {}
     for side in range(4, largest + 1):
         for a in range(1, side // 3 + 1):
             for b in range(0, side // 3 + 1):
@@ -104,13 +104,13 @@ def nearest(angle, ruling, dpi, largest):
     return [grid for _, grid in sorted(found.values(), key=lambda pair: pair[0])]
 
 
-def is_near(grid, angle, ruling, dpi):
+def is_near(grid: Grid, angle: float, ruling: float, dpi: float) -> bool:
     """Returns whether a grid is near enough to the wanted angle and ruling to be used."""
     turn, part = grid.off(angle, ruling, dpi)
     return turn <= OFF_ANGLE and part <= OFF_RULING
 
 
-def tile_text(name, grid, at):
+def tile_text(name: str, grid: Grid, at: list[int]) -> str:
     """Returns the tile in the plan's form, one row on each line."""
     rows = (", ".join(map(str, at[i : i + grid.side])) for i in range(0, len(at), grid.side))
     return (
@@ -120,7 +120,7 @@ def tile_text(name, grid, at):
     )
 
 
-def wedge(path, grid, at):
+def wedge(path: str, grid: Grid, at: list[int]) -> None:
     """Writes a picture of the tile's dots in eleven steps from paper to solid, each pixel 3 by 3."""
     side, zoom, field = grid.side, 3, 96
     rows = []
@@ -142,90 +142,3 @@ def wedge(path, grid, at):
             file.write(
                 struct.pack(">I", len(data)) + kind + data + struct.pack(">I", zlib.crc32(kind + data))
             )
-
-
-def number(least, most, words):
-    def read(text):
-        try:
-            value = float(text)
-        except ValueError:
-            value = math.nan
-        if not least <= value <= most:
-            raise argparse.ArgumentTypeError(f"{text!r} isn't {words}")
-        return value
-
-    return read
-
-
-def name(text):
-    if not re.fullmatch(r"[A-Za-z0-9_]{1,16}", text):
-        raise argparse.ArgumentTypeError(f"{text!r} isn't 1 to 16 letters A to Z and a to z, digits and _")
-    return text
-
-
-def read_words():
-    parser = argparse.ArgumentParser(
-        description=__doc__, formatter_class=argparse.RawDescriptionHelpFormatter
-    )
-    parser.add_argument("name", metavar="NAME", type=name, help="the tile's name in the plan")
-    parser.add_argument(
-        "--angle",
-        metavar="A",
-        type=number(0, 89.999, "an angle of 0 to below 90"),
-        required=True,
-        help="degrees, 0 to below 90",
-    )
-    parser.add_argument(
-        "--ruling",
-        metavar="R",
-        type=number(1, 4000, "a ruling of 1 to 4000"),
-        required=True,
-        help="lines an inch",
-    )
-    parser.add_argument(
-        "--dpi",
-        metavar="D",
-        type=number(1, 10000, "1 to 10000 pixels an inch"),
-        default=1200.0,
-        help="the plan's dpi (1200)",
-    )
-    parser.add_argument("--dot", choices=sorted(DOTS), default="round", help="the dot's shape (round)")
-    parser.add_argument(
-        "--largest",
-        metavar="N",
-        type=number(4, MOST, "a side of 4 to 64"),
-        default=float(MOST),
-        help="the largest side (64)",
-    )
-    parser.add_argument("--list", action="store_true", help="print the ten nearest, and no tile")
-    parser.add_argument("--wedge", metavar="OUT.png", help="also write a picture of the dots in eleven tones")
-    return parser.parse_args()
-
-
-def main():
-    words = read_words()
-    dpi = int(words.dpi) if words.dpi == int(words.dpi) else words.dpi
-    grids = nearest(words.angle, words.ruling, dpi, int(words.largest))
-    if words.list:
-        for grid in grids[:SHOWN]:
-            print(grid.line(dpi))
-        return 0
-    if not grids or not is_near(grids[0], words.angle, words.ruling, dpi):
-        near = f"the nearest has {grids[0].line(dpi)}" if grids else "there is none"
-        print(
-            f"tile.py: no tile of side up to {words.largest:.0f} is near {words.angle:g} degrees and "
-            f"{words.ruling:g} lines an inch at {dpi} dpi; {near}",
-            file=sys.stderr,
-        )
-        return 1
-    at = thresholds(grids[0], words.dot)
-    if words.wedge:
-        try:
-            wedge(words.wedge, grids[0], at)
-        except OSError as error:
-            print(f"tile.py: {words.wedge}: {error.strerror}", file=sys.stderr)
-            return 2
-    print(tile_text(words.name, grids[0], at), end="")
-    print(f"{words.name}: {grids[0].line(dpi)}", file=sys.stderr)
-    return 0
-

@@ -8,7 +8,7 @@ A fault stops one page: the other pages are made, but no plan is written without
 what changed on the way, or what may print badly. Faults and notes name the file and, where there is one, the
 place in millimetres from the page's upper left corner.
 
-example: pressroom intake house.toml in work && plateroom run work/plan.json work/files plates
+example: pressroom intake house.toml in work
 
 status: 0 the plans are written; 1 a page has a fault; 2 the arguments or the house file are wrong, a program
 or library isn't installed, WORK can't be written, or another intake is using WORK
@@ -24,9 +24,10 @@ import time
 from concurrent.futures import ThreadPoolExecutor
 from dataclasses import dataclass
 
-from pressroom import __version__
+from pressroom.base.command_line import Parser
 from pressroom.base.console import Console, Missing, need
 from pressroom.base.limits import Limits, Passed
+from pressroom.house.folders import with_folders
 from pressroom.house.house import HouseFault, read_house
 from pressroom.intake import bands, bitmaps, pages, profiles, state
 from pressroom.intake.ghostscript import Ghostscript
@@ -219,14 +220,12 @@ def see_places(house, found, strays, told):
     return single
 
 
-def read_words():
-    parser = argparse.ArgumentParser(
-        description=__doc__, formatter_class=argparse.RawDescriptionHelpFormatter
-    )
+def parser():
+    parser = Parser("intake", __doc__)
     whole = positive(int, "a whole number above 0")
-    parser.add_argument("house", metavar="HOUSE", help="the house file, house.toml")
-    parser.add_argument("folder", metavar="IN", help="the folder that holds the pages")
-    parser.add_argument("work", metavar="WORK", help="the folder for the plans and their files")
+    parser.add_argument("house", metavar="HOUSE", nargs="?", help="the house file, house.toml")
+    parser.add_argument("folder", metavar="IN", nargs="?", help="the folder that holds the pages")
+    parser.add_argument("work", metavar="WORK", nargs="?", help="the folder for the plans and their files")
     count = len(os.sched_getaffinity(0))
     for option, metavar, kind, default, text in (
         ("--jobs", "N", whole, count, f"pages made at once ({count} here)"),
@@ -241,9 +240,7 @@ def read_words():
         parser.add_argument(option, metavar=metavar, type=kind, default=default, help=text)
     partial = "write the plans despite faults; pages with a fault are blank"
     parser.add_argument("--partial", action="store_true", help=partial)
-    parser.add_argument("--json", action="store_true", help="print each event as a JSON object on one line")
-    parser.add_argument("--version", action="version", version=f"pressroom {__version__}")
-    return parser.parse_args()
+    return parser
 
 
 def positive(kind, words):
@@ -291,7 +288,7 @@ def see_libraries():
 
 
 def main():
-    words = read_words()
+    words = with_folders(parser(), "house", "folder", "work")
     console = Console("pressroom intake", words.json)
     try:
         need(*PROGRAMS)

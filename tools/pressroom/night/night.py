@@ -12,13 +12,13 @@ arguments or the house file are wrong, or a program is missing; 3 the spool can'
 
 example: pressroom night /var/spool/pressroom --json
 """
-import argparse
 import fcntl
 import os
 import shutil
 
 from pressroom.base import disk
 from pressroom.base.ask import program_path
+from pressroom.base.command_line import Parser
 from pressroom.base.console import Console, Missing, fault_of, need
 from pressroom.night import metrics, night_house, spool
 from pressroom.night.visit import BUSY, Visit
@@ -154,20 +154,15 @@ def old_versions(out, keep):
     return [one for one in every if one.name not in kept]
 
 
-def read_words():
-    parser = argparse.ArgumentParser(
-        description=__doc__, formatter_class=argparse.RawDescriptionHelpFormatter
-    )
+def parser():
+    parser = Parser("night", __doc__)
     parser.add_argument("spool", metavar="SPOOL", help="the folder of the spool, with house.toml")
-    parser.add_argument(
-        "--program", metavar="PATH", help="the program (default: $PLATEROOM, then plateroom on the path)"
-    )
-    parser.add_argument("--json", action="store_true", help="print each event as a JSON object, one a line")
-    return parser.parse_args()
+    parser.add_program()
+    return parser
 
 
 def main():
-    words = read_words()
+    words = parser().parse_args()
     console = Console("pressroom night", words.json)
     program = program_path(words.program)
     try:

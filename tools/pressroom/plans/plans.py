@@ -1,17 +1,28 @@
 """Makes the plan of each press from the house file and the pages that were made."""
 import json
-import os
-from typing import Any
+from collections.abc import Mapping
+from typing import TypedDict
 
+from pressroom.base import disk
 from pressroom.house import tile
-from pressroom.house.house import INKS, LARGEST_TILE, Place
+from pressroom.house.house import INKS, LARGEST_TILE, House, Place
+from pressroom.house.records import Press, Screen
+from pressroom.plans import form
+from pressroom.plans.plan_reader import plans_of, printed
 
 # The most bytes of a plan's files together that plateroom loads.
 MOST_BYTES = 3_221_225_472
-BLANK = {"name": "blank", "inks": "K", "layers": []}
+BLANK: form.Page = {"name": "blank", "inks": "K", "layers": []}
 
 
-def page_names(places):
+class Made(TypedDict):
+    """What was made of a page: its inks and its layers."""
+
+    inks: str
+    layers: list[form.Layer]
+
+
+def page_names(places: list[Place]) -> dict[Place, str]:
     """Returns a unique name of at most 16 letters, digits and _ for each place."""
     names = {}
     for place in places:
@@ -22,14 +33,15 @@ def page_names(places):
     return {place: f"page{number:04}" for number, place in enumerate(places, 1)}
 
 
-def limit_of(percent):
+def limit_of(percent: float) -> int:
     """Returns an ink limit in the plan's units."""
     return int(percent * 255 / 100 + 1e-9)
 
 
-def screens(press, dpi):
+def screens(press: Press, dpi: int) -> tuple[list[form.Tile], dict[str, str]]:
     """Returns a press's tiles and screens in the plan's form."""
-    tiles, names = {}, {}
+    tiles: dict[Screen, form.Tile] = {}
+    names: dict[str, str] = {}
     for ink in INKS:
         screen = press.screens.get(ink)
         if screen is None:
@@ -45,7 +57,7 @@ def screens(press, dpi):
     return list(tiles.values()), names
 
 
-def curves(press):
+def curves(press: Press) -> dict[str, list[list[int]]]:
     """Returns a press's curves in the plan's form, percent as 255ths."""
     return {
         ink: [[round(x * 255 / 100), round(y * 255 / 100)] for x, y in points]
@@ -53,17 +65,18 @@ def curves(press):
     }
 
 
-def marks(house, press):
+def marks(house: House, press: Press) -> list[form.Mark]:
     """Returns a press's marks in the plan's form, each at least one pixel wide and high."""
-    found = []
+    found: list[form.Mark] = []
     for mark in press.marks:
-        x, y = house.pixels(mark.x), house.pixels(mark.y)
-        right, bottom = house.pixels(mark.x + mark.width), house.pixels(mark.y + mark.height)
+        (left, top), (width, height) = mark.at, mark.size
+        x, y = house.pixels(left), house.pixels(top)
+        right, bottom = house.pixels(left + width), house.pixels(top + height)
         found.append({"inks": mark.inks, "x": x, "y": y, "w": max(1, right - x), "h": max(1, bottom - y)})
     return found
 
 
-def plan_of(house, press, pages):
+def plan_of(house: House, press: Press, pages: Mapping[Place, Made]) -> form.PlanForm:
     """Returns the plan of a press. `pages` has the inks and layers of each place that isn't blank."""
     sites = [site for site in house.sites if site.press == press.name]
     zones = list(dict.fromkeys(site.zone for site in sites if site.zone))
@@ -72,15 +85,15 @@ def plan_of(house, press, pages):
     order.sort(key=lambda place: (place.zone or "", first[place.section], place.page))
     names = page_names(order)
 
-    def name(place):
+    def name(place: Place) -> str:
         return names.get(place, "blank")
 
-    sections = [
+    sections: list[form.Section] = [
         {"name": section, "pages": [name(Place(None, section, page)) for page in range(1, count + 1)]}
         for section, count in house.sections.items()
     ]
     given = set(order) | house.blank
-    own = [
+    own: list[form.Zone] = [
         {
             "name": zone,
             "replace": [
@@ -93,7 +106,10 @@ def plan_of(house, press, pages):
         for zone in zones
     ]
     tiles, named = screens(press, house.dpi)
-    listed = [{"name": names[place], **pages[place]} for place in order]
+    listed: list[form.Page] = [
+        {"name": names[place], "inks": pages[place]["inks"], "layers": pages[place]["layers"]}
+        for place in order
+    ]
     used = {page for section in sections for page in section["pages"]}
     used |= {item["with"] for zone in own for item in zone["replace"]}
     return {
@@ -111,58 +127,35 @@ def plan_of(house, press, pages):
         "pages": listed + ([BLANK] if "blank" in used else []),
         "sections": sections,
         "zones": own,
-        "sites": [{"name": site.name} | ({"zone": site.zone} if site.zone else {}) for site in sites],
+        "sites": [
+            {"name": site.name, "zone": site.zone} if site.zone else {"name": site.name} for site in sites
+        ],
     }
 
 
-def files_of(plan):
-    """Returns the names of all files of a plan."""
+def files_of(plan: form.PlanForm) -> set[str]:
+    """Returns the names of all files of a plan that was made here."""
     return {layer["file"] for page in plan["pages"] for layer in page["layers"]}
 
 
-def largest_part(plan: dict[str, Any], sizes: dict[str, int]) -> tuple[str, str, int]:
+def largest_part(plan: form.PlanForm, sizes: Mapping[str, int]) -> tuple[str, str, int]:
     """Returns the section and site whose files have the most bytes together, and how many. `sizes` has the
     bytes of each file. No part of a plan is smaller than a section for one site.
     """
     files = {page["name"]: {layer["file"] for layer in page["layers"]} for page in plan["pages"]}
-    zones = {zone["name"]: zone["replace"] for zone in plan["zones"]}
     found = []
     for site in plan["sites"]:
-        own = {(item["section"], item["page"]): item["with"] for item in zones.get(site.get("zone"), ())}
         for section in plan["sections"]:
-            names = {own.get((section["name"], page), name) for page, name in enumerate(section["pages"], 1)}
-            printed = {file for name in names for file in files[name]}
-            found.append((section["name"], site["name"], sum(sizes[file] for file in printed)))
+            names = {file for name in printed(plan, section, site) for file in files[name]}
+            found.append((section["name"], site["name"], sum(sizes[file] for file in names)))
     return max(found, key=lambda part: part[2])
 
 
-def write(path, value):
-    """Writes JSON to a file, unless the file already has the same content: under another name first, which is
-    then renamed. Returns whether it wrote.
-    """
-    data = (json.dumps(value, ensure_ascii=False, indent=1) + "\n").encode()
-    try:
-        with open(path, "rb") as file:
-            if file.read() == data:
-                return False
-    except FileNotFoundError:
-        pass
-    with open(path + ".new", "wb") as file:
-        file.write(data)
-        file.flush()
-        os.fsync(file.fileno())
-    os.replace(path + ".new", path)
-    return True
+def write(path: str, value: object) -> bool:
+    """Writes JSON to a file, unless the file already has the same content. Returns whether it wrote."""
+    return disk.write_changed(path, (json.dumps(value, ensure_ascii=False, indent=1) + "\n").encode())
 
 
-def plan_files(work):
+def plan_files(work: str) -> set[str]:
     """Returns the names of the files of all plans in a folder, whoever wrote the plans."""
-    kept = set()
-    for name in os.listdir(work):
-        if name.endswith(".json"):
-            try:
-                with open(os.path.join(work, name), encoding="utf-8") as file:
-                    kept |= files_of(json.load(file))
-            except (OSError, ValueError, LookupError, TypeError, AttributeError):
-                continue
-    return kept
+    return {name for plan in plans_of(work, readable=True) for name in plan.files()}

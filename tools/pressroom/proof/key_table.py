@@ -2,13 +2,19 @@
 import csv
 import io
 import json
+from collections.abc import Iterator
+from typing import Protocol
 
 import numpy
 
+from pressroom.proof.counts import Counts
+
+# The width and the offset of a press's keys in mm.
+Press = tuple[float, float]
 HEAD = "pair", "sites", "ink", "name", "key", "dots", "pixels", "percent"
 
 
-def press_shares(counts, dpi, count, width, offset):
+def press_shares(counts: Counts, dpi: float, count: int, width: float, offset: float) -> list[float]:
     """The printed area in percent of a press's keys, `width` mm wide, beginning `offset` mm from the left edge.
 
     A column of the plate belongs to the key at its middle. The part of a key beyond the plate
@@ -21,10 +27,28 @@ def press_shares(counts, dpi, count, width, offset):
     return [round(float(100 * n / (width * dpi / 25.4 * counts.length)), 3) for n in dots]
 
 
+class Counted(Protocol):
+    """A plate that was counted: its size in pixels, its pixels an inch, and its counts."""
+
+    width: int
+    length: int
+    dpi: float
+    counts: Counts
+
+
 class Row:
     """A plate's keys: its sites and ink, the dots and pixels of each key, and a press's shares or None."""
 
-    def __init__(self, pair, sites, ink, name, plate, count, press):
+    def __init__(
+        self,
+        pair: str,
+        sites: list[str],
+        ink: str,
+        name: str,
+        plate: Counted,
+        count: int,
+        press: Press | None,
+    ) -> None:
         self.pair, self.sites, self.ink, self.name = pair, sites, ink, name
         self.dots = plate.counts.keys(count)
         columns = numpy.bincount(numpy.arange(plate.width) * count // plate.width, minlength=count)
@@ -34,10 +58,10 @@ class Row:
         ]
         self.press = press_shares(plate.counts, plate.dpi, count, *press) if press else None
 
-    def lines(self):
+    def lines(self) -> Iterator[list[object]]:
         """A line of the table for each key, from 1."""
         for key, (dots, pixels, percent) in enumerate(zip(self.dots, self.pixels, self.percent)):
-            line = [
+            line: list[object] = [
                 self.pair,
                 " ".join(self.sites),
                 self.ink,
@@ -50,7 +74,7 @@ class Row:
             yield line + ([f"{self.press[key]:.3f}"] if self.press else [])
 
 
-def as_csv(rows, press):
+def as_csv(rows: list[Row], press: Press | None) -> str:
     """The table as text, a line for each plate and key."""
     out = io.StringIO()
     writer = csv.writer(out, lineterminator="\n")
@@ -60,11 +84,11 @@ def as_csv(rows, press):
     return out.getvalue()
 
 
-def as_json(rows, count, press):
+def as_json(rows: list[Row], count: int, press: Press | None) -> str:
     """The same as JSON, an object for each plate."""
     plates = []
     for row in rows:
-        plate = {
+        plate: dict[str, object] = {
             "pair": row.pair,
             "sites": row.sites,
             "ink": row.ink,

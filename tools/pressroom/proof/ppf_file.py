@@ -4,24 +4,29 @@ A sample is PostScript's grey: 0 is full ink, 255 bare paper. Samples are run-le
 as hex digits, so that the file is 7-bit text of short lines. The preview has whole pixels: where the plate
 ends within one, the rest of it is paper, and so the extent is that of the preview.
 """
+from typing import TYPE_CHECKING
+
 from pressroom import __version__
+
+if TYPE_CHECKING:
+    from pressroom.tiff.arrays import Bytes
 
 # What consoles of presses commonly require: 20 pixels a centimetre.
 RESOLUTION = 50.8
 LINE = 76
 
 
-def factor_of(dpi):
+def factor_of(dpi: float) -> int:
     """How many pixels of a plate across become one of the preview."""
     return max(1, round(dpi / RESOLUTION))
 
 
-def number(value):
+def number(value: float) -> str:
     """A number as PostScript reads it, to a thousandth."""
     return f"{value:.3f}".rstrip("0").rstrip(".")
 
 
-def string(text):
+def string(text: str) -> str:
     """A PostScript string in 7-bit characters; a character outside Latin-1 becomes a question mark."""
     codes = text.encode("latin-1", "replace")
     inner = "".join(
@@ -30,11 +35,11 @@ def string(text):
     return f"({inner})"
 
 
-def run_lengths(data):
+def run_lengths(data: bytes) -> bytes:
     """The bytes in the form that PostScript's RunLengthDecode reads, with their end mark."""
     out, at, literal = bytearray(), 0, bytearray()
 
-    def end_literal():
+    def end_literal() -> None:
         if literal:
             out.append(len(literal) - 1)
             out.extend(literal)
@@ -58,12 +63,12 @@ def run_lengths(data):
     return bytes(out)
 
 
-def definitions(items):
+def definitions(items: list[tuple[str, object]]) -> list[str]:
     """PostScript definitions, one a line."""
     return [f"/{key} {value} def" for key, value in items]
 
 
-def separation(samples, matrix, resolution):
+def separation(samples: "Bytes", matrix: str, resolution: float) -> list[str]:
     """The lines of one separation's preview: rows of samples from the top."""
     height, width = samples.shape
     digits = run_lengths(samples.tobytes()).hex().upper()
@@ -88,7 +93,9 @@ def separation(samples, matrix, resolution):
     ]
 
 
-def text_of(job, sheet, sites, dpi, separations):
+def text_of(
+    job: str, sheet: str, sites: list[str], dpi: float, separations: "list[tuple[str, Bytes]]"
+) -> str:
     """The whole file. Separations are names with their samples, in printing order, all of one size."""
     height, width = separations[0][1].shape
     factor = factor_of(dpi)

@@ -1,15 +1,18 @@
 """Builds the data, tiles and thumbnails of a proof in the browser from plates."""
+import argparse
 import base64
 import json
 import os
-from concurrent.futures import ThreadPoolExecutor
+from concurrent.futures import Executor, ThreadPoolExecutor
+from typing import TypedDict
 
-from pressroom.house.house_tables import spot_of
-from pressroom.plans import web_plan
+from pressroom.base.console import Console
+from pressroom.house.house import read_proof
+from pressroom.plans import sheets
 from pressroom.proof import web_tiles
 from pressroom.proof.counts import Counts
-from pressroom.proof.plates import INK_NAMES, content_of, open_plate, sites_of
-from pressroom.proof.proof import COLOURS
+from pressroom.proof.names import COLOURS, INK_NAMES
+from pressroom.proof.plates import Site, content_of, open_plate, sites_of
 from pressroom.proof.web_changes import Changes
 from pressroom.proof.web_view import View
 from pressroom.tiff.tiff import Broken
@@ -22,7 +25,7 @@ THUMB = 420
 class Plate:
     """A plate by its content: its key in the proof, its size, counts and tiles."""
 
-    def __init__(self, key, path, folder, keys):
+    def __init__(self, key: str, path: str, folder: str, keys: list[int]) -> None:
         self.key, self.path = key, path
         plate = open_plate(path)
         try:
@@ -37,11 +40,11 @@ class Plate:
         self.shares = counts.larger(times) / counts.areas(times)
         self.tiles = web_tiles.cut(path, os.path.join(folder, "tiles", key), self.width, self.length)
 
-    def summary(self):
+    def summary(self) -> dict[str, object]:
         """What the page has of it when it opens."""
         return {"width": self.width, "length": self.length, "total": self.total, "tiles": self.tiles}
 
-    def write(self, folder):
+    def write(self, folder: str) -> None:
         """Writes what the page loads with the pair."""
         rows, columns = self.cells.shape
         cells = base64.b64encode(self.cells.astype("<u2").tobytes()).decode()
@@ -49,24 +52,41 @@ class Plate:
         write_script(os.path.join(folder, "data", f"{self.key}.js"), f'proofPlate("{self.key}", ', data, ");")
 
 
-def write_script(path, front, data, end):
+def write_script(path: str, front: str, data: object, end: str) -> None:
     """Writes data as a script, since a page that is opened from a disk can't fetch JSON."""
     with open(path, "w", encoding="ascii") as file:
         file.write(f"{front}{json.dumps(data, separators=(',', ':'))}{end}\n")
 
 
+class Ink(TypedDict):
+    """The name of an ink and its colour on paper."""
+
+    name: str
+    colour: tuple[int, int, int]
+
+
+# A pair as some sites print it: the pair, the sites, and the contents by ink now and before.
+Seen = tuple[str, list[str], dict[str, str], dict[str, str]]
+
+
 class Proof:
     """All plates of a proof, and the views of them: a pair as some sites print it."""
 
-    def __init__(self, words, console, folder):
+    def __init__(self, words: argparse.Namespace, console: Console, folder: str) -> None:
         self.words, self.console, self.folder = words, console, folder
         self.sites, self.old = self.found(words.plates), self.found(words.old) if words.old else []
-        self.sheets = web_plan.sheets_of(words.plan)
-        self.contents, self.plates, self.faults, self.damaged, self.views = {}, {}, {}, [], []
-        self.inks = {ink: {"name": INK_NAMES[ink], "colour": COLOURS[ink]} for ink in COLOURS}
+        self.sheets = sheets.sheets_of(words.plan)
+        # The content of each path; plates and faults by content.
+        self.contents: dict[str, str] = {}
+        self.plates: dict[str, Plate] = {}
+        self.faults: dict[str, str] = {}
+        self.damaged: list[dict[str, str]] = []
+        self.views: list[View] = []
+        self.inks: dict[str, Ink] = {ink: {"name": INK_NAMES[ink], "colour": COLOURS[ink]} for ink in COLOURS}
         self.set_spot()
 
-    def found(self, folder):
+    def found(self, folder: str) -> list[Site]:
+        """The sites of a folder of plates."""
         try:
             sites = sites_of(folder)
         except OSError as error:
@@ -75,14 +95,14 @@ class Proof:
             raise Broken(f"{folder}: no plates")
         return sites
 
-    def set_spot(self):
+    def set_spot(self) -> None:
         """Gives the spot the house's name and colour; --spot overrides the house file."""
-        name, colour = spot_of(self.words.house) if self.words.house else (None, None)
+        name, colour, _ = read_proof(self.words.house) if self.words.house else (None, None, None)
         spot = self.inks["S"]
         spot["name"] = name or spot["name"]
         spot["colour"] = self.words.spot or colour or spot["colour"]
 
-    def make(self):
+    def make(self) -> None:
         """Makes everything below the folder, several plates at a time."""
         for name in ("tiles", "data", "thumbs"):
             os.mkdir(os.path.join(self.folder, name))
@@ -98,11 +118,11 @@ class Proof:
                 raise
         self.write()
 
-    def read_contents(self, pool):
+    def read_contents(self, pool: Executor) -> None:
         """Finds which files have the same content."""
         paths = [path for site in self.sites + self.old for path in site.paths()]
 
-        def read(path):
+        def read(path: str) -> str | Broken:
             try:
                 return content_of(path)
             except Broken as error:
@@ -114,16 +134,17 @@ class Proof:
                 content = path
             self.contents[path] = content
 
-    def make_plates(self, pool):
+    def make_plates(self, pool: Executor) -> None:
         """Counts each content once, and cuts it into tiles."""
-        first, keys = {}, self.words.keys or [32]
+        first: dict[str, tuple[str, str]] = {}
+        keys = self.words.keys or [32]
         for site in self.sites:
             for pair, paths in site.pairs.items():
                 for ink, path in paths.items():
                     content = self.contents[path]
                     first.setdefault(content, (f"{pair}-{ink}-{content[:12]}", path))
 
-        def plate(item):
+        def plate(item: tuple[str, tuple[str, str]]) -> tuple[str, Plate | Broken]:
             content, (key, path) = item
             try:
                 if path in self.faults:
@@ -139,9 +160,10 @@ class Proof:
                 self.plates[content] = made
                 made.write(self.folder)
 
-    def make_views(self):
+    def make_views(self) -> None:
         """A view for each pair and the sites that print it from the same plates, and had the same before."""
-        old, found = {site.name: site.pairs for site in self.old}, {}
+        old = {site.name: site.pairs for site in self.old}
+        found: dict[object, Seen] = {}
         for site in self.sites:
             before = old.get(site.name, {})
             for pair, paths in site.pairs.items():
@@ -149,19 +171,20 @@ class Proof:
                 was = {ink: self.contents[path] for ink, path in before.get(pair, {}).items()}
                 form = pair, tuple(new.items()), tuple(was.items())
                 if form not in found:
-                    found[form] = {"pair": pair, "sites": [], "new": new, "old": was}
-                found[form]["sites"].append(site.name)
+                    found[form] = pair, [], new, was
+                found[form][1].append(site.name)
                 for path in paths.values():
                     if self.contents[path] in self.faults:
                         self.tell_damage(path, self.faults[self.contents[path]])
-        views = sorted(found.values(), key=lambda view: view["pair"])
-        self.views = [View(self, number, **view) for number, view in enumerate(views)]
+        views = sorted(found.values(), key=lambda view: view[0])
+        self.views = [View(self, number, *view) for number, view in enumerate(views)]
 
-    def tell_damage(self, path, reason):
+    def tell_damage(self, path: str, reason: str) -> None:
+        """Reports a damaged plate."""
         self.console.tell("fault", f"{path}: {reason}", path=path, reason=reason)
         self.damaged.append({"path": path, "reason": reason})
 
-    def write(self):
+    def write(self) -> None:
         """Writes the data that the page has when it opens."""
         data = {
             "edition": self.sites[0].edition,
@@ -178,11 +201,11 @@ class Proof:
         }
         write_script(os.path.join(self.folder, "proof.js"), "const PROOF = ", data, ";")
 
-    def zone(self, site):
+    def zone(self, site: str) -> str | None:
         """The zone of a site, None if no plan names one."""
         return self.sheets[site].zone if site in self.sheets else None
 
-    def gone(self):
+    def gone(self) -> list[dict[str, str]]:
         """Pairs of the old edition that a site no longer has."""
         now = {site.name: site.pairs for site in self.sites}
         return [
@@ -192,7 +215,7 @@ class Proof:
             if pair not in now.get(site.name, {})
         ]
 
-    def summary(self):
+    def summary(self) -> str:
         """A line on what was made."""
         pairs = {view.pair for view in self.views}
         files = sum(len(site.paths()) for site in self.sites)

@@ -7,17 +7,28 @@ Tiles without a dot aren't stored either: a bit for each tile of a level says wh
 import os
 import shutil
 import subprocess
+from collections.abc import Iterable
+from typing import TypedDict
+
+from pressroom.base.faults import Fault
 
 SIDE = 512
 BITS = ".png[compression=6,bitdepth=1,strip]"
 GREYS = ".png[compression=6,strip]"
 
 
-class Failed(Exception):
+class Tiles(TypedDict):
+    """The number of the native level, and which tiles of each level are stored."""
+
+    native: int
+    there: dict[int, str]
+
+
+class Failed(Fault):
     """vips failed, for instance on a full disk; the text is its own."""
 
 
-def levels_of(width, length):
+def levels_of(width: int, length: int) -> int:
     """The number of the native level of a plate: at each level before it the plate is half as large."""
     level = 0
     while SIDE << level < max(width, length):
@@ -25,7 +36,7 @@ def levels_of(width, length):
     return level
 
 
-def vips(*words):
+def vips(*words: str) -> None:
     """Runs vips on one processor."""
     environment = os.environ | {"VIPS_CONCURRENCY": "1", "VIPS_WARNING": "0"}
     answer = subprocess.run(["vips", *words], capture_output=True, text=True, env=environment)
@@ -33,7 +44,8 @@ def vips(*words):
         raise Failed(f"vips {words[0]} {words[1]}: {(answer.stderr.strip() or 'failed').splitlines()[-1]}")
 
 
-def save(image, folder, suffix, *words):
+def save(image: str, folder: str, suffix: str, *words: str) -> None:
+    """Cuts an image into tiles of a suffix."""
     vips(
         "dzsave",
         image,
@@ -52,7 +64,7 @@ def save(image, folder, suffix, *words):
     )
 
 
-def move_levels(made, folder, names):
+def move_levels(made: str, folder: str, names: dict[str, int]) -> None:
     """Moves the levels of a folder that vips made to the folder of tiles."""
     for name, level in names.items():
         if os.path.isdir(os.path.join(made, name)):
@@ -60,7 +72,7 @@ def move_levels(made, folder, names):
     shutil.rmtree(made)
 
 
-def cut(image, folder, width, length):
+def cut(image: str, folder: str, width: int, length: int) -> Tiles:
     """Cuts a plate into a new folder and returns what a page has to know of its tiles."""
     native, made = levels_of(width, length), os.path.join(folder, "made")
     os.makedirs(folder)
@@ -75,7 +87,7 @@ def cut(image, folder, width, length):
     return described(folder, width, length, [*range(native - 1), native])
 
 
-def cut_changes(image, folder, width, length):
+def cut_changes(image: str, folder: str, width: int, length: int) -> Tiles:
     """The same of an image of changes, at all levels in bits: a pixel that changed is seen at every zoom."""
     native, made = levels_of(width, length), os.path.join(folder, "made")
     os.makedirs(folder)
@@ -84,9 +96,10 @@ def cut_changes(image, folder, width, length):
     return described(folder, width, length, range(native + 1))
 
 
-def described(folder, width, length, levels):
+def described(folder: str, width: int, length: int, levels: Iterable[int]) -> Tiles:
     """Which tiles of each level are stored, as a number in base 16 whose highest bit is the first tile."""
-    native, there = levels_of(width, length), {}
+    native = levels_of(width, length)
+    there: dict[int, str] = {}
     for level in levels:
         side = SIDE << (native - level)
         columns, rows = -(-width // side), -(-length // side)

@@ -1,26 +1,39 @@
 """A view of a proof: a pair as some sites print it, with its pages, its changes and its thumbnail."""
 import os
+from typing import TYPE_CHECKING
 
 import numpy
 from PIL import Image
 
-from pressroom.plans import web_plan
+from pressroom.plans import sheets
+
+if TYPE_CHECKING:
+    from pressroom.proof.web_proof import Plate, Proof
 
 
 class View:
     """A pair as some sites print it: its plates and what is damaged, its pages, and what changed."""
 
-    def __init__(self, proof, number, pair, sites, new, old):
+    def __init__(
+        self,
+        proof: "Proof",
+        number: int,
+        pair: str,
+        sites: list[str],
+        new: dict[str, str],
+        old: dict[str, str],
+    ) -> None:
         self.proof, self.number, self.pair, self.sites, self.old = proof, number, pair, sites, old
         self.section, _, place = pair.partition("-")
         self.place = int(place)
-        self.plates, self.damaged = {}, {}
+        self.plates: dict[str, Plate] = {}
+        self.damaged: dict[str, str] = {}
         for ink, content in new.items():
             self.take(ink, content)
         self.new = {ink: content for ink, content in new.items() if ink in self.plates}
         self.changes = proof.changes.of(self) if proof.old else {}
 
-    def take(self, ink, content):
+    def take(self, ink: str, content: str) -> None:
         """Puts a plate into the view, unless it's damaged or of another size than the first."""
         if content in self.proof.faults:
             self.damaged[ink] = self.proof.faults[content]
@@ -35,11 +48,12 @@ class View:
         else:
             self.plates[ink] = plate
 
-    def pages(self):
+    def pages(self) -> dict[str, list[sheets.OnPlate]]:
         """The two pages with their places on the plate, of each site."""
         if not self.plates:
             return {}
-        first, pages = next(iter(self.plates.values())), {}
+        first = next(iter(self.plates.values()))
+        pages: dict[str, list[sheets.OnPlate]] = {}
         size = first.width, first.length
         most = max(view.place for view in self.proof.views if view.section == self.section)
         for site in self.sites:
@@ -47,24 +61,21 @@ class View:
             if sheet and sheet.size() == size:
                 pages[site] = sheet.pages(self.section, self.place)
             else:
-                pages[site] = web_plan.halves(self.place, 2 * most, *size)
+                pages[site] = sheets.halves(self.place, 2 * most, *size)
         return pages
 
-    def limit(self):
+    def limit(self) -> int | None:
         """The least ink limit of its sites' plans, in percent."""
-        sheets = self.proof.sheets
-        limits = [
-            sheets[site].limit for site in self.sites if site in sheets and sheets[site].limit is not None
-        ]
-        return min(limits, default=None)
+        limits = [self.proof.sheets[site].limit for site in self.sites if site in self.proof.sheets]
+        return min((limit for limit in limits if limit is not None), default=None)
 
-    def state(self):
+    def state(self) -> str:
         """Whether it is new, changed or unchanged since the old edition."""
         if not self.old:
             return "new"
         return "changed" if any(change["dots"] != [0, 0] for change in self.changes.values()) else "same"
 
-    def thumb(self):
+    def thumb(self) -> tuple[str, tuple[int, int]]:
         """Writes the picture of the index, in which every ink takes its share of the light."""
         shares = next(iter(self.plates.values())).shares.shape
         light = numpy.ones((*shares, 3))
@@ -76,9 +87,9 @@ class View:
         picture.save(os.path.join(self.proof.folder, path), quality=88, optimize=True)
         return path, picture.size
 
-    def data(self):
+    def data(self) -> dict[str, object]:
         """What the page knows of it."""
-        data = {
+        data: dict[str, object] = {
             "pair": self.pair,
             "section": self.section,
             "sites": self.sites,

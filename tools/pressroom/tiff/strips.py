@@ -6,6 +6,10 @@ import ctypes
 import ctypes.util
 import functools
 import os
+from typing import TYPE_CHECKING, Any
+
+if TYPE_CHECKING:
+    from numpy.typing import NDArray
 
 STRIP = 64
 # Fields, in the order of TIFF 6.0, and the compression PackBits.
@@ -20,7 +24,7 @@ class Unpacked(Exception):
 
 
 @functools.cache
-def library():
+def library() -> ctypes.CDLL:
     """Returns libtiff, with the types of the functions that are used."""
     name = ctypes.util.find_library("tiff")
     if not name:
@@ -36,7 +40,7 @@ def library():
     return tiff
 
 
-def packed_zeros(count):
+def packed_zeros(count: int) -> bytes:
     """Returns a row of this many zero bytes, packed."""
     runs, rest = divmod(count, 128)
     return b"\x81\0" * runs + (bytes([(1 - rest) % 256, 0]) if rest else b"")
@@ -45,13 +49,15 @@ def packed_zeros(count):
 class StripFile:
     """A TIFF file that is being written. In ink and in bits, 0 is bare."""
 
-    def __init__(self, path: str, width: int, height: int, planes: int, photometric: int | None = None) -> None:
+    def __init__(
+        self, path: str, width: int, height: int, planes: int, photometric: int | None = None
+    ) -> None:
         photometric = (5 if planes == 4 else 0) if photometric is None else photometric
         self.path, self.height, self.planes = path, height, planes
         self.strips = -(-height // STRIP)
         self.row = width if planes == 4 else (width + 7) // 8
         self.bare = packed_zeros(self.row)
-        self.written = set()
+        self.written: set[int] = set()
         self.file = library().TIFFOpen(os.fsencode(path), b"w")
         if not self.file:
             raise OSError(None, "can't be written", path)
@@ -62,26 +68,22 @@ class StripFile:
         ):  # fmt: skip
             library().TIFFSetField(ctypes.c_void_p(self.file), ctypes.c_uint32(tag), ctypes.c_int(value))
 
-    def rows(self, strip):
+    def rows(self, strip: int) -> int:
+        """How many rows a strip has."""
         return min(STRIP, self.height - strip * STRIP)
 
-    def write(self, strip, plane, data):
+    def write(self, strip: int, plane: int, data: "NDArray[Any]") -> None:
         """Writes a strip of a plane from a contiguous array of its rows."""
         number, size = plane * self.strips + strip, self.rows(strip) * self.row
         self.see(library().TIFFWriteEncodedStrip(self.file, number, data.ctypes.data, size))
         self.written.add(number)
 
-    def copy(self, strip: int, plane: int, data: bytes) -> None:
-        """Writes a strip of a plane as it is stored in another file."""
-        number = plane * self.strips + strip
-        self.see(library().TIFFWriteRawStrip(self.file, number, data, len(data)))
-        self.written.add(number)
-
-    def see(self, count):
+    def see(self, count: int) -> None:
+        """Raises Unpacked if a strip wasn't written."""
         if count < 0:
             raise Unpacked(f"{os.path.basename(self.path)}: a strip can't be written")
 
-    def close(self):
+    def close(self) -> None:
         """Writes the missing strips, which are bare, and closes the file."""
         for number in range(self.planes * self.strips):
             if number not in self.written:

@@ -1,25 +1,11 @@
-"""Makes the plates of pages that came late, as a new READY version of the whole edition.
-
-PAGE is taken into the edition: with --house and --in as a page of IN, which `pressroom intake` converts into
-WORK; without them as a file of WORK/files, or as a plan PRESS.json of WORK, each by its name. A new version
-OUT/DATE-TIME gets the plates that changed, made by `plateroom replate`, and hard links to all others of the
-version to which OUT/current leads. That version is unchanged, so a site may still be fetching it. The rest is
-as in make: every plate is verified, each site gets SHA256SUMS and READY, and OUT/current moves. READY names
-the version before and each plate that changed.
-
-status: 0 all sites are READY, or nothing changed; 1 a site isn't READY; 2 the arguments are wrong, OUT has no
-version that is READY, or a file can't be written; 3 a plan is refused; 4 a page is refused: WORK and IN are
-unchanged; 5 another make or late works in OUT
-
-example: pressroom late work/monday A03.pdf out/monday --house house.toml --in in/monday
-"""
+"""Makes the plates of pages that came late, as a new READY version of the whole edition. The version before is
+unchanged: plates that didn't change are hard links to its own."""
 import argparse
 import os
 
 from pressroom.base import disk, runs
-from pressroom.base.ask import program_path
 from pressroom.base.console import Console, fault_of
-from pressroom.plans.plan_reader import plans_of
+from pressroom.plans.plan_reader import Plan, plans_of
 from pressroom.versions import version
 from pressroom.versions.job import (
     ALL_READY,
@@ -27,6 +13,7 @@ from pressroom.versions.job import (
     FILE_REFUSED,
     OTHER_WORKS,
     PLAN_REFUSED,
+    Changed,
     Job,
     Refused,
 )
@@ -34,7 +21,7 @@ from pressroom.versions.job import (
 FRESH = "fresh.parts"
 
 
-def late(work, out, console, program):
+def late(work: str, out: str, console: Console, program: str) -> tuple[int, version.Version | None]:
     """Makes a version of WORK from what changed since OUT/current. Returns the status and the current
     version."""
     try:
@@ -49,7 +36,10 @@ def late(work, out, console, program):
         return OTHER_WORKS, None
 
 
-def late_locked(work, out, old, console, program):
+def late_locked(
+    work: str, out: str, old: version.Version, console: Console, program: str
+) -> tuple[int, version.Version]:
+    """The same, under the lock of OUT."""
     new = version.begin(out)
     new.take(work)
     if new.taken_sums() == old.taken_sums():
@@ -73,11 +63,12 @@ def late_locked(work, out, old, console, program):
 class Changes:
     """Makes the plates of a press in a version from what changed since another version."""
 
-    def __init__(self, job, old, old_plan):
-        self.job, self.old, self.old_plan, self.made = job, old, old_plan, {}
+    def __init__(self, job: Job, old: version.Version, old_plan: Plan | None) -> None:
+        self.job, self.old, self.old_plan = job, old, old_plan
+        self.made: dict[str, list[str]] = {}
         self.fresh = job.version.file(FRESH)
 
-    def plates(self, plan, sites):
+    def plates(self, plan: Plan, sites: list[str]) -> runs.Call:
         """Makes the plates that changed, and links the others. Without the old plan it makes all."""
         if self.old_plan is None:
             return self.job.run(plan, sites)
@@ -94,7 +85,7 @@ class Changes:
         disk.remove(self.fresh)
         return answer
 
-    def join(self, plan, site):
+    def join(self, plan: Plan, site: str) -> None:
         """Moves a site's new plates into its folder, by their names, and links the old ones of all other
         names."""
         folder, fresh = self.job.version.file(site), os.path.join(self.fresh, site)
@@ -109,7 +100,7 @@ class Changes:
         disk.sync_folder(folder)
         self.made[site] = made
 
-    def of(self, site):
+    def of(self, site: str) -> Changed:
         """What READY says of a site: the version before, and the plates that changed since."""
         return {"since": self.old.name, "made": self.made[site]} if site in self.made else {}
 
@@ -117,35 +108,50 @@ class Changes:
 class Placed:
     """Files that replaced others. The old ones are kept until the new ones are accepted."""
 
-    def __init__(self, work):
-        self.kept, self.before = os.path.join(work, ".before"), []
+    def __init__(self, work: str) -> None:
+        self.kept = os.path.join(work, ".before")
+        self.before: list[tuple[str, str | None]] = []
+        # The folders that were made for them, outermost first.
+        self.made: list[str] = []
 
-    def put(self, source, target):
+    def put(self, source: str, target: str) -> None:
         """Puts a copy of a file at a path, in place of a file there, if any."""
-        old = os.path.join(self.kept, str(len(self.before)))
-        if os.path.exists(target):
+        old: str | None = os.path.join(self.kept, str(len(self.before)))
+        if old and os.path.exists(target):
             os.makedirs(self.kept, exist_ok=True)
             disk.remove(old)
             disk.link_or_copy(target, old)
         else:
             old = None
         self.before.append((target, old))
+        missing, folder = [], os.path.dirname(os.path.abspath(target))
+        while not os.path.isdir(folder):
+            missing.append(folder)
+            folder = os.path.dirname(folder)
+        self.made += reversed(missing)
         disk.copy_whole(source, target)
 
-    def undo(self):
+    def undo(self) -> None:
         """Puts the old files back."""
         for target, old in reversed(self.before):
-            disk.remove(target) if old is None else disk.copy_whole(old, target)
+            if old is None:
+                disk.remove(target)
+            else:
+                disk.copy_whole(old, target)
+        for folder in reversed(self.made):
+            if os.path.isdir(folder) and not os.listdir(folder):
+                os.rmdir(folder)
         self.forget()
 
-    def forget(self):
+    def forget(self) -> None:
+        """Removes what is kept."""
         disk.remove(self.kept)
 
 
-def take_pages(words, console, placed):
+def take_pages(words: argparse.Namespace, console: Console, placed: Placed) -> int:
     """Takes the pages into WORK. Returns 0, or the status of what is wrong with them."""
     plans = plans_of(words.work)
-    files = set().union(*(plan.files() for plan in plans))
+    files = {name for plan in plans for name in plan.files()}
     for page in words.pages:
         name = os.path.relpath(page, words.base) if words.base else os.path.basename(page)
         if name.endswith(".json") and name.removesuffix(".json") in {plan.name for plan in plans}:
@@ -165,7 +171,7 @@ def take_pages(words, console, placed):
     return 0 if answer.status == 0 else FILE_REFUSED
 
 
-def take_and_make(words, console, program):
+def take_and_make(words: argparse.Namespace, console: Console, program: str) -> int:
     """Takes the pages and makes the version; where one is refused, the old pages come back."""
     placed = Placed(words.work)
     status = CANT_BEGIN
@@ -179,37 +185,3 @@ def take_and_make(words, console, program):
         else:
             placed.forget()
     return status
-
-
-def read_words():
-    parser = argparse.ArgumentParser(
-        description=__doc__, formatter_class=argparse.RawDescriptionHelpFormatter
-    )
-    parser.add_argument("work", metavar="WORK", help="the folder of the edition's plans and files")
-    parser.add_argument("pages", metavar="PAGE", nargs="+", help="a page that came late")
-    parser.add_argument("out", metavar="OUT", help="the folder of the edition's versions")
-    parser.add_argument("--house", metavar="FILE", help="the house file, for `pressroom intake`")
-    parser.add_argument("--in", dest="into", metavar="IN", help="the folder of the edition's pages")
-    parser.add_argument(
-        "--base",
-        metavar="FOLDER",
-        help="the name of a page is its path below this folder, as for west/A03.pdf (default: its file name)",
-    )
-    parser.add_argument(
-        "--program", metavar="PATH", help="the program (default: $PLATEROOM, then plateroom on the path)"
-    )
-    parser.add_argument("--json", action="store_true", help="print each event as a JSON object, one a line")
-    words = parser.parse_args()
-    if bool(words.house) != bool(words.into):
-        parser.error("--house and --in are given together or not at all")
-    return words
-
-
-def main():
-    words = read_words()
-    console = Console("pressroom late", words.json)
-    program = program_path(words.program)
-    try:
-        return take_and_make(words, console, program)
-    except OSError as error:
-        console.leave(CANT_BEGIN, fault_of(error))

@@ -12,9 +12,10 @@ import calendar
 import os
 import re
 import time
+from collections.abc import Iterable
 
 from pressroom.base import disk
-from pressroom.plans.plan_reader import plans_of
+from pressroom.plans.plan_reader import Plan, plans_of
 
 FORM = "%Y%m%d-%H%M%S"
 CURRENT, LOCK, SOURCE, SUMS, READY, REPORT = (
@@ -27,14 +28,14 @@ CURRENT, LOCK, SOURCE, SUMS, READY, REPORT = (
 )
 
 
-def versions(out):
+def versions(out: str) -> list[str]:
     """The names of the versions of OUT, in the order in which they were begun."""
     if not os.path.isdir(out):
         return []
     return sorted(name for name in os.listdir(out) if re.fullmatch(r"\d{8}-\d{6}", name))
 
 
-def current(out):
+def current(out: str) -> "Version | None":
     """The version to which `current` leads, or None."""
     try:
         name = os.readlink(os.path.join(out, CURRENT))
@@ -43,7 +44,7 @@ def current(out):
     return Version(out, name) if name in versions(out) else None
 
 
-def begin(out):
+def begin(out: str) -> "Version":
     """Makes the folder of a new version. Its name is later than all others, also where the clock went
     back."""
     now = time.time()
@@ -58,7 +59,7 @@ def begin(out):
             now += 1
 
 
-def sums_text(sums):
+def sums_text(sums: dict[str, str]) -> bytes:
     """The lines of `sha256sum` for these names and sums."""
     return "".join(f"{digest}  {name}\n" for name, digest in sorted(sums.items())).encode()
 
@@ -66,18 +67,20 @@ def sums_text(sums):
 class Version:
     """One folder DATE-TIME of OUT."""
 
-    def __init__(self, out, name):
+    def __init__(self, out: str, name: str) -> None:
         self.out, self.name, self.path = out, name, os.path.join(out, name)
         self.source = self.file(SOURCE)
         self.files = os.path.join(self.source, "files")
 
-    def file(self, *names):
+    def file(self, *names: str) -> str:
+        """The path of a file of this version."""
         return os.path.join(self.path, *names)
 
-    def plans(self):
+    def plans(self) -> list[Plan]:
+        """The plans that it was made from."""
         return plans_of(self.source)
 
-    def take(self, work):
+    def take(self, work: str) -> None:
         """Links the plans of WORK and the files that they name, so that later arrivals change nothing
         here."""
         os.makedirs(self.files)
@@ -90,15 +93,15 @@ class Version:
                     disk.link_or_copy(source, target)
         disk.write_whole(os.path.join(self.source, SUMS), self.source_sums())
 
-    def source_sums(self):
+    def source_sums(self) -> bytes:
         """The sums of plans and files as they are now."""
         return source_sums(self.source)
 
-    def source_kept(self):
+    def source_kept(self) -> bool:
         """Whether plans and files are those that this version was made from."""
         return self.taken_sums() == self.source_sums()
 
-    def taken_sums(self):
+    def taken_sums(self) -> bytes | None:
         """The sums of plans and files when this version was begun; None if it never got that far."""
         try:
             with open(os.path.join(self.source, SUMS), "rb") as file:
@@ -106,17 +109,21 @@ class Version:
         except FileNotFoundError:
             return None
 
-    def drop_source(self):
+    def drop_source(self) -> None:
+        """Removes what it was made from."""
         disk.remove(self.source)
 
-    def is_ready(self, site):
+    def is_ready(self, site: str) -> bool:
+        """Whether a site is READY."""
         return os.path.isfile(self.file(site, READY))
 
-    def ready_sites(self):
+    def ready_sites(self) -> list[str]:
         """The names of the sites that are READY."""
         return sorted(name for name in os.listdir(self.path) if self.is_ready(name))
 
-    def ready(self, site, plates, edition, since=None, made=()):
+    def ready(
+        self, site: str, plates: list[str], edition: str, since: str | None = None, made: Iterable[str] = ()
+    ) -> None:
         """Writes a site's SHA256SUMS and then READY. `since` names the version of which `made` are the
         changes."""
         sums = sums_text({name: disk.sha256(self.file(site, name)) for name in plates})
@@ -125,7 +132,7 @@ class Version:
         lines += [f"since {since}"] * bool(since) + [f"made {name}" for name in sorted(made)]
         disk.write_whole(self.file(site, READY), "".join(f"{line}\n" for line in lines).encode())
 
-    def carry(self, site, other):
+    def carry(self, site: str, other: "Version") -> None:
         """Takes a READY site of another version, by hard links; its READY is written last, and anew."""
         os.makedirs(self.file(site), exist_ok=True)
         with os.scandir(other.file(site)) as entries:
@@ -133,7 +140,7 @@ class Version:
         for name in names:
             disk.link_or_copy(other.file(site, name), self.file(site, name))
 
-    def keys_lines(self, plan):
+    def keys_lines(self, plan: Plan) -> list[str]:
         """The lines of ink keys in the report of a press."""
         try:
             with open(self.file(f"{plan.name}.report"), encoding="utf-8") as file:
@@ -141,13 +148,14 @@ class Version:
         except FileNotFoundError:
             return []
 
-    def make_current(self):
+    def make_current(self) -> None:
+        """Points OUT/current at this version."""
         disk.move_link(os.path.join(self.out, CURRENT), self.name)
 
 
-def source_sums(folder):
+def source_sums(folder: str) -> bytes:
     """The sums of a folder's plans and of the files that they name, as far as present."""
-    sums = {}
+    sums: dict[str, str] = {}
     for plan in plans_of(folder):
         sums[f"{plan.name}.json"] = disk.sha256(os.path.join(folder, f"{plan.name}.json"))
         for name in plan.files():

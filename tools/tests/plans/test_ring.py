@@ -1,18 +1,19 @@
 """The ring of a run: its places for a plan, readers and memory. The memory of a ring is that of docs/MANUAL.md."""
 import os
 import sys
+from pathlib import Path
 
 import pytest
 
 sys.dont_write_bytecode = True
 sys.path.insert(0, os.path.join(os.path.dirname(os.path.abspath(__file__)), "..", ".."))
 
-from pressroom.plans.ring import available, places, ring_of, row_bytes
+from pressroom.plans.ring import Shape, available, places, ring_of, row_bytes
 
 # 33,100 pixels are 4,138 bytes; a 128th more is 33, and the length takes two.
-BROADSHEET = {"page": [16550, 26500]}
+BROADSHEET: Shape = {"page": [16550, 26500]}
 # The widest plate: 65,535 pixels, whose rows take 8,258 bytes in the ring.
-WIDEST = {"page": [32767, 10], "gutter": 1}
+WIDEST: Shape = {"page": [32767, 10], "gutter": 1}
 MB = 1 << 20
 
 
@@ -25,7 +26,7 @@ MB = 1 << 20
         ({"page": [10, 10], "margins": [3, 100, 2, 100], "gutter": 7}, 4 + 1 + 2),
     ],
 )
-def test_a_row_takes_its_bits_a_128th_and_two_bytes(plan: dict[str, list[int]], size: int) -> None:
+def test_a_row_takes_its_bits_a_128th_and_two_bytes(plan: Shape, size: int) -> None:
     assert row_bytes(plan) == size
 
 
@@ -41,12 +42,12 @@ def test_a_row_takes_its_bits_a_128th_and_two_bytes(plan: dict[str, list[int]], 
     ],
 )
 def test_a_ring_has_1024_places_or_what_memory_allows(
-    plan: dict[str, list[int]], readers: int, memory: int | None, count: int
+    plan: Shape, readers: int, memory: int | None, count: int
 ) -> None:
     assert places(plan, readers, memory) == count
 
 
-def test_available_memory_is_what_the_machine_says(tmp_path) -> None:
+def test_available_memory_is_what_the_machine_says(tmp_path: Path) -> None:
     path = tmp_path / "meminfo"
     path.write_text("MemTotal:  8000000 kB\nMemFree:  10 kB\nMemAvailable:    2048 kB\n")
     assert available(str(path)) == 2048 * 1024

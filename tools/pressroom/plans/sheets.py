@@ -1,37 +1,39 @@
-"""What a proof takes from edition plans: each site's zone, the ink limit, and the positions of pages on a plate."""
-import json
+"""What a proof takes from edition plans: each site's zone, the ink limit, and the places of pages on a plate."""
+from typing import TypedDict
 
+from pressroom.base.files import Unreadable
+from pressroom.plans.form import NO_LIMIT, PlanForm, Site
+from pressroom.plans.plan_reader import NotAPlan, printed, read_plan
 from pressroom.tiff.tiff import Broken
 
-NO_LIMIT = 1020
+
+class OnPlate(TypedDict):
+    """A page on a plate: its number, its name or None, and its left, top, width and height in pixels."""
+
+    number: int
+    name: str | None
+    box: list[int]
 
 
 class Sheet:
     """The plates of one site by its plan: the zone, the limit in percent or None, and the pages of each
     pair."""
 
-    def __init__(self, plan, site):
+    def __init__(self, plan: PlanForm, site: Site) -> None:
         self.zone = site.get("zone")
         limit = plan.get("limit", NO_LIMIT)
         self.limit = round(limit / 2.55) if limit < NO_LIMIT else None
         self.width, self.height = plan["page"]
         self.left, self.top, self.right, self.bottom = plan.get("margins", [0] * 4)
         self.gutter = plan.get("gutter", 0)
-        zones = {zone["name"]: zone["replace"] for zone in plan.get("zones", [])}
-        other = {(item["section"], item["page"]): item["with"] for item in zones.get(self.zone, [])}
-        self.sections = {
-            section["name"]: [
-                other.get((section["name"], number), name) for number, name in enumerate(section["pages"], 1)
-            ]
-            for section in plan["sections"]
-        }
+        self.sections = {section["name"]: printed(plan, section, site) for section in plan["sections"]}
 
-    def size(self):
+    def size(self) -> tuple[int, int]:
         """Width and length of its plates."""
         return self.left + 2 * self.width + self.gutter + self.right, self.top + self.height + self.bottom
 
-    def pages(self, section, pair):
-        """The two pages of a pair, each with its number, its name and its place on the plate."""
+    def pages(self, section: str, pair: int) -> list[OnPlate]:
+        """The two pages of a pair."""
         names = self.sections.get(section, [])
         if not 1 <= pair <= len(names) // 2:
             return []
@@ -42,12 +44,12 @@ class Sheet:
         ]
 
 
-def numbers_of(pair, pages):
+def numbers_of(pair: int, pages: int) -> list[int]:
     """The page numbers of a pair, the left one first: it is even."""
     return sorted((pair, pages + 1 - pair), key=lambda number: number % 2)
 
 
-def halves(pair, pages, width, length):
+def halves(pair: int, pages: int, width: int, length: int) -> list[OnPlate]:
     """The two pages of a pair without a plan: only their numbers, each on its half of the plate."""
     return [
         {"number": number, "name": None, "box": [side * (width // 2), 0, width // 2, length]}
@@ -55,17 +57,14 @@ def halves(pair, pages, width, length):
     ]
 
 
-def sheets_of(paths):
+def sheets_of(paths: list[str]) -> dict[str, Sheet]:
     """The sheet of each site that these plans name; of a site in several plans the first counts."""
-    sheets = {}
+    sheets: dict[str, Sheet] = {}
     for path in paths:
         try:
-            with open(path, encoding="utf-8") as file:
-                plan = json.load(file)
-            for site in plan["sites"]:
-                sheets.setdefault(site["name"], Sheet(plan, site))
-        except OSError as error:
-            raise Broken(f"{path}: {error.strerror}") from None
-        except (ValueError, KeyError, TypeError, AttributeError, IndexError):
-            raise Broken(f"{path}: not an edition plan; `pressroom check` reports why") from None
+            plan = read_plan(path)
+        except (Unreadable, NotAPlan) as error:
+            raise Broken(str(error)) from None
+        for site in plan["sites"]:
+            sheets.setdefault(site["name"], Sheet(plan, site))
     return sheets
