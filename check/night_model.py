@@ -72,6 +72,7 @@ SQL = {
             " p.id) AND NOT EXISTS\n",
         )
     ],
+    "rejection_by_arrival": [("OR v.verdict IS NULL AND EXISTS", "OR 0 AND EXISTS")],
     "verdict_unseen": [(VERDICT, VERDICT + " 0 AND")],
     "release_unseen": [(RELEASE, RELEASE + " 0 AND")],
     "complete_by_sent": [

@@ -236,7 +236,10 @@ SELECT n.place, n.edition, n.zone, n.section, n.number, n.held, n.newest, n.arri
     WHEN n.arrival IS NULL THEN 'refused'   -- all that came
     WHEN r.key IS NULL THEN 'arrived'       -- no verdict of intake yet: nothing older leaves
     WHEN n.held THEN 'held'
-    WHEN v.verdict = 'rejected' THEN 'rejected'
+    -- what was rejected stays so when the same bytes come again, until somebody approves that arrival
+    WHEN v.verdict = 'rejected' OR v.verdict IS NULL AND EXISTS
+      (SELECT 1 FROM arrival b JOIN verdict w ON w.arrival = b.id AND w.render = r.key
+       WHERE b.place = n.place AND w.verdict = 'rejected') THEN 'rejected'
     WHEN n.ask AND v.verdict IS NULL THEN 'asks'
     ELSE 'ready'
   END AS state
