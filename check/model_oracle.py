@@ -67,7 +67,9 @@ class Oracle:
 
     def believe_released(self, why, pairs, page, count):
         self.need(len(self.came[page]) == count, "released: what came since wasn't seen", page)
-        self.need(not count or self.came[page][-1] in self.judged, "released: intake has the newest page", page)
+        self.need(
+            not count or self.came[page][-1] in self.judged, "released: intake has the newest page", page
+        )
 
     def believe_sent(self, site, folder):
         self.need((site, folder) in self.landed, "sent: isn't at its site", site, folder)

@@ -26,7 +26,9 @@ SITES = {"OSLO": "", "BERGEN": "west", "TROMSO": ""}
 PLACES = [("", 1), ("", 2), ("", 3), ("", 4), ("west", 2)]
 RELEASE, VERDICT = "WHEN OLD.held AND NOT NEW.held AND", "BEFORE INSERT ON verdict\nWHEN"
 SHOWN = "v.arrival = n.arrival AND v.render = r.key"
-LATE = 60  # the last ticks of an evening, when no more pages come and the desk is done: sites and crashes go on
+LATE = (
+    60  # the last ticks of an evening, when no more pages come and the desk is done: sites and crashes go on
+)
 # Broken by other SQL: what is replaced in schema.sql, and by what.
 SQL = {
     "hold_outside": [("WHEN NEW.state = 'leaving' AND", "WHEN 0 AND")],
@@ -217,8 +219,8 @@ class Evening(Service, Oracle):
     def pause(self, kind, key, fault="machine"):
         tries = (self.one("SELECT tries FROM pause WHERE kind = ? AND key = ?", kind, key) or 0) + 1
         until = self.tick + min(2**tries, 8)
-        values = [kind, key, tries, fault, "why", 0, 0, "boot", until]
-        self.db.execute("INSERT OR REPLACE INTO pause VALUES (?, ?, ?, ?, ?, ?, ?, ?, ?)", values)
+        values = [kind, key, tries, fault, "why", 0, 0, until]
+        self.db.execute("INSERT OR REPLACE INTO pause VALUES (?, ?, ?, ?, ?, ?, ?, ?)", values)
         self.event("waits", kind=kind, key=key, fault=fault)
         return tries
 

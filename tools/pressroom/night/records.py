@@ -152,7 +152,8 @@ class Render:
 class Ready:
     """What READY of a version says. `since` is the version that the site surely has, None where it has none.
 
-    `expose` are the plates that differ from it, or that were asked for again; `empty` are plates that print nothing.
+    `expose` are the plates that differ from it, or that were asked for again; `empty` are plates that print nothing;
+    `blank` are pages that are planned blank.
     """
 
     edition: str
@@ -166,6 +167,7 @@ class Ready:
     expose: tuple[str, ...]
     empty: tuple[str, ...]
     resend: str | None = None
+    blank: tuple[str, ...] = ()
 
 
 @dataclass(frozen=True)

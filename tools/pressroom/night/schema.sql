@@ -14,7 +14,8 @@ CREATE TABLE spool (                        -- one row
   one INTEGER PRIMARY KEY CHECK (one = 1),
   id TEXT NOT NULL CHECK (length(id) = 16), -- random; a copied spool gets another one
   epoch INTEGER NOT NULL DEFAULT 0,         -- how often a service began on it
-  house INTEGER REFERENCES house            -- the last good house file, for new editions
+  house INTEGER REFERENCES house,           -- the last good house file, for new editions
+  boot TEXT NOT NULL DEFAULT ''             -- the boot of which `seen` and `until` count the seconds
 ) STRICT;
 
 CREATE TABLE edition (
@@ -88,9 +89,9 @@ CREATE TABLE render (                       -- the verdict of intake on a page u
   state TEXT NOT NULL CHECK (state IN ('accepted', 'refused')),
   folder TEXT UNIQUE,                       -- renders/FOLDER has the layers, synced; named by its job, never reused
   inks TEXT NOT NULL DEFAULT '',
-  layers TEXT NOT NULL DEFAULT '[]' CHECK (json_valid(layers)),
-  fault TEXT CHECK (fault IS NULL OR json_valid(fault)),    -- of a refused page: kind, text, at_mm
-  notes TEXT NOT NULL DEFAULT '[]' CHECK (json_valid(notes)),
+  layers TEXT NOT NULL DEFAULT '[]' CHECK (layers LIKE '[%]'),
+  fault TEXT CHECK (fault LIKE '{%}'),    -- of a refused page: kind, text, at_mm
+  notes TEXT NOT NULL DEFAULT '[]' CHECK (notes LIKE '[%]'),
   seconds REAL NOT NULL DEFAULT 0,
   at REAL NOT NULL DEFAULT 0,
   CHECK ((state = 'accepted') = (folder IS NOT NULL) AND (state = 'refused') = (fault IS NOT NULL)),
@@ -116,6 +117,7 @@ CREATE TABLE pair (                         -- a pair at a site: the unit of wor
   right INTEGER NOT NULL REFERENCES place,
   making TEXT NOT NULL,   -- sum of press settings, edition, section, page count, number, plateroom's version
   leave_by REAL,          -- by the wall clock, where the site has a press start
+  warned INTEGER NOT NULL DEFAULT 0 CHECK (warned IN (0, 1)),   -- it was told that it will be late
   UNIQUE (site, section, number)
 ) STRICT;
 CREATE INDEX pair_left ON pair (left);
@@ -164,7 +166,7 @@ CREATE TABLE version (                      -- what is sent to a site: plates of
   state TEXT NOT NULL DEFAULT 'queued'
     CHECK (state IN ('queued', 'sending', 'leaving', 'unknown', 'sent', 'kept', 'old', 'dropped')),
   went REAL,                                -- when it was first `leaving`: from then on its site may have acted on it
-  seen REAL,                                -- sent: when; unknown: when the site was first seen without its READY
+  seen REAL,                                -- seconds since the boot. sent: when; unknown: when READY was first missed
   acked REAL,
   at REAL NOT NULL DEFAULT 0,
   moved REAL NOT NULL DEFAULT 0,            -- when it came into its state
@@ -200,8 +202,7 @@ CREATE TABLE pause (                        -- attempts that failed for no fault
   why TEXT NOT NULL,
   since REAL NOT NULL,                      -- by the wall clock
   alerted INTEGER NOT NULL DEFAULT 0 CHECK (alerted IN (0, 1)),
-  boot TEXT NOT NULL,                       -- of another boot: the pause is over
-  until REAL NOT NULL,                      -- CLOCK_BOOTTIME
+  until REAL NOT NULL,                      -- seconds since the boot; of another boot the pause is over
   PRIMARY KEY (kind, key)
 ) STRICT, WITHOUT ROWID;
 
@@ -211,7 +212,7 @@ CREATE TABLE event (                        -- append only: the text is made fro
   name TEXT NOT NULL,
   edition TEXT, site TEXT, page TEXT, pair TEXT, version INTEGER,
   who TEXT,
-  more TEXT NOT NULL DEFAULT '{}' CHECK (json_valid(more))
+  more TEXT NOT NULL DEFAULT '{}' CHECK (more LIKE '{%}')
 ) STRICT;
 CREATE INDEX event_edition ON event (edition, seq);
 
