@@ -34,7 +34,8 @@ def what(status: os.stat_result) -> str:
 
 @contextmanager
 def opened(top: str | int, path: bytes, flags: int) -> Iterator[int]:
-    """Opens a path below a folder, given by its path or its handle, folder by folder. Closes it at the end."""
+    """Opens a path below a folder, given by its path or its handle, folder by folder. Closes it at the
+    end."""
     held = os.dup(top) if isinstance(top, int) else os.open(top, FOLDER)
     try:
         *folders, last = path.split(b"/")

@@ -16,9 +16,9 @@ GONE = (errno.ENOENT, errno.ENOTDIR, errno.ELOOP)
 def clear(in_folder: str, found: Found, grab: str) -> str:
     """Removes a file that was taken from the folder in which it was found.
 
-    `grab` is a folder that doesn't exist yet, on the file system of `in_folder`. Returns `removed`; `left`, if
-    the file isn't there, or another is, which the next scan finds; `grabbed`, if another one came in the last
-    moment and is now below `grab`; or `kept: WHY`, if it can't be moved.
+    `grab` is a folder that doesn't exist yet, on the file system of `in_folder`. Returns `removed`; `left`,
+    if the file isn't there, or another is, which the next scan finds; `grabbed`, if another one came in the
+    last moment and is now below `grab`; or `kept: WHY`, if it can't be moved.
     """
     target = os.path.join(os.fsencode(grab), found.name)
     try:

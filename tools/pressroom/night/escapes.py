@@ -1,4 +1,5 @@
-"""Shows bytes and text of strangers on one line: names of files, and what a program said on standard error."""
+"""Shows bytes and text of strangers on one line: names of files, and what a program said on standard
+error."""
 import unicodedata
 
 # The most characters of a program's message that an event keeps.

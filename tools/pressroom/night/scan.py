@@ -1,5 +1,5 @@
-"""Finds the files of uploaders in `in/`: `in/NAME/` is the folder of an edition; it holds pages, and folders of
-zones that hold pages.
+"""Finds the files of uploaders in `in/`: `in/NAME/` is the folder of an edition; it holds pages, and folders
+of zones that hold pages.
 
 Nothing is opened but folders, each below the handle of the one that holds it, and nothing is followed. Only
 regular files on the device of `in/` itself are found. What can't be taken is an `Unfit`, and stops nothing.
@@ -15,7 +15,7 @@ from pressroom.night.below import FOLDER, opened, stamp_of, what
 from pressroom.night.records import Found, Unfit
 
 EDITION = re.compile(rb"[A-Za-z0-9][A-Za-z0-9_.-]{0,63}")
-# The most entries of an edition's or a zone's folder that are read, and the most faults that one folder tells.
+# The most entries of a folder that are read, and the most faults that one edition tells.
 MOST_FILES, MOST_UNFIT = 10_000, 100
 # The largest file that is taken: twice what plateroom loads of one file.
 MOST_BYTES = 1 << 30
@@ -50,7 +50,8 @@ def scan(in_folder: str) -> Iterator[Found | Unfit]:
 def few_faults(
     name: bytes, status: os.stat_result, found: Iterator[Found | Unfit]
 ) -> Iterator[Found | Unfit]:
-    """Passes on what an edition holds, but no more faults than MOST_UNFIT and one that says there are more."""
+    """Passes on what an edition holds, but no more faults than MOST_UNFIT and one that says there are
+    more."""
     unfit = 0
     for item in found:
         unfit += isinstance(item, Unfit)
