@@ -4,6 +4,7 @@ An event is written by the transaction that made it true, and its text is made w
 the event is about: the edition, then the site, the page or the pair. Names from files were escaped when they came in.
 """
 import json
+import sqlite3
 import time
 from collections.abc import Callable, Mapping, Sequence
 from typing import Any
@@ -56,9 +57,16 @@ def told_accepted(more: More) -> str:
 
 
 def told_refused(more: More) -> str:
-    place = "" if more.get("at_mm") is None else " at " + ", ".join(f"{mm:g}" for mm in more["at_mm"]) + " mm"
     still = f"; the page of {clock(more['still'])} stays in force" if more.get("still") else ""
-    return f"refused: {more['fault']}{place}{still}"
+    return f"refused: {more['fault']}{told_place(more.get('at_mm'))}{still}"
+
+
+def told_place(at: Sequence[float] | None) -> str:
+    """Returns a place on a page, left, top, width and height in mm, or nothing."""
+    if at is None or len(at) != 4:
+        return ""
+    left, top, width, height = at
+    return f", {width:g} x {height:g} mm at {left:g}, {top:g}"
 
 
 def told_hold(verb: str) -> Callable[[More], str]:
@@ -146,7 +154,7 @@ def iso(at: float | None) -> str | None:
     return time.strftime("%Y-%m-%dT%H:%M:%S", time.localtime(at)) + f"{zone[:3]}:{zone[3:]}"
 
 
-def about(row: Mapping[str, Any]) -> str:
+def about(row: sqlite3.Row) -> str:
     """Returns what an event is about: edition, site, page, pair, as far as it has them."""
     more = json.loads(row["more"])
     names = [row[key] for key in ("edition", "site", "page", "pair")]
@@ -155,7 +163,7 @@ def about(row: Mapping[str, Any]) -> str:
     )
 
 
-def words(row: Mapping[str, Any]) -> str:
+def words(row: sqlite3.Row) -> str:
     """Returns what an event says, without what it is about."""
     more: dict[str, Any] = json.loads(row["more"])
     name: str = row["name"]
@@ -167,13 +175,13 @@ def words(row: Mapping[str, Any]) -> str:
     return PLAIN[name].format_map(fields) if name in PLAIN else name
 
 
-def text(row: Mapping[str, Any]) -> str:
+def text(row: sqlite3.Row) -> str:
     """Returns an event as a line for people."""
     subject = about(row)
     return f"{subject}: {words(row)}" if subject else words(row)
 
 
-def record(row: Mapping[str, Any]) -> dict[str, Any]:
+def record(row: sqlite3.Row) -> dict[str, Any]:
     """Returns an event as an object: `seq`, `time`, `event`, what it is about, its fields, and its text."""
     fixed = {key: row[key] for key in ("edition", "site", "page", "pair", "version", "who")}
     start = {"seq": row["seq"], "time": iso(row["at"]), "event": row["name"]}

@@ -2,13 +2,15 @@
 and the messages between the service and its jobs.
 
 A place of an edition is written `A07`, or `west/A02` where it belongs to a zone. A pair is written `A-002`. A name
-that a stranger chose is bytes; `shown` gives the text for people. Messages are JSON objects of at most MESSAGE bytes.
+that a stranger chose is bytes; `shown` gives its text for people. Messages are JSON objects of at most MESSAGE bytes.
 """
 from __future__ import annotations
 
 from collections.abc import Mapping, Sequence
 from dataclasses import dataclass
 from typing import Any, Literal, NamedTuple, Protocol, TypedDict
+
+from pressroom.night.escapes import shown as shown
 
 # The most bytes of one message between the service and a job; what is longer goes through a handle.
 MESSAGE = 100_000
@@ -21,12 +23,6 @@ Kind = Literal["page", "plates", "send"]
 Deliver = Literal["pair", "edition"]
 Plan = dict[str, Any]
 Layer = dict[str, Any]
-
-
-def shown(name: bytes | str) -> str:
-    """Returns a name for people: printable ASCII and letters as they are, all else as escapes."""
-    text = name.decode("utf-8", "backslashreplace") if isinstance(name, bytes) else name
-    return "".join(sign if sign.isprintable() else sign.encode("unicode_escape").decode() for sign in text)
 
 
 # ---- what is planned
@@ -282,7 +278,9 @@ class SendAnswer(TypedDict, total=False):
 
 
 class Job(Protocol):
-    """A process at the other end of a socket. The service never blocks on it."""
+    """A process at the other end of a socket. The service never blocks on it. `why` says how it ended."""
+
+    why: str
 
     def fileno(self) -> int:
         """Returns the handle to wait for."""
@@ -291,7 +289,13 @@ class Job(Protocol):
         """Sends a request; raises OSError where the job is gone."""
 
     def answer(self) -> dict[str, Any] | None:
-        """Returns the answer that is there, or None where the job ended without one. Called when fileno is readable."""
+        """Returns the answer that is there, or None where the job ended without one.
+
+        Called when fileno is readable; raises BlockingIOError where neither is so yet.
+        """
+
+    def late(self, now: float | None = None) -> bool:
+        """Returns whether its time is over, by time.monotonic()."""
 
     def stop(self) -> None:
         """Ends the job and all its processes. May be called twice."""

@@ -3,7 +3,7 @@
 Work that belongs to a pair comes in the order of the time by which that pair must leave, then in the order in which it
 became possible. A site has one job at a time. A page that exceeds its limits again is tried alone.
 """
-from collections.abc import Collection
+from collections.abc import Collection, Iterable
 from dataclasses import dataclass, field
 
 from pressroom.night import pauses, versions
@@ -88,13 +88,22 @@ class LookWork:
 
 @dataclass
 class Looks:
-    """When a look at all that a site has of an edition began, in seconds since the boot: known to this service alone."""
+    """When each version was last looked for at a site, in seconds since the boot: known to this service alone."""
 
     at: dict[tuple[str, int], float] = field(default_factory=dict)
+
+    def saw(self, site: str, some: Iterable[int], began: float) -> None:
+        """Notes a look that began then."""
+        self.at.update({(site, version): began for version in some})
 
     def forget(self, site: str) -> None:
         """After an outage of a site all that it has is looked at again."""
         self.at = {key: at for key, at in self.at.items() if key[0] != site}
+
+    def older(self, site: str, some: Iterable[int], before: float) -> tuple[int, ...]:
+        """Returns the versions that weren't looked for since then, at most as many as one look takes."""
+        found = [version for version in some if self.at.get((site, version), -1.0) < before]
+        return tuple(found[:MOST_FOLDERS])
 
 
 def page_work(book: Book, busy: Collection[str], slots: int) -> list[PageWork]:
@@ -179,9 +188,10 @@ def send_work(book: Book, site: str, looks: Looks) -> "SendWork | LookWork | Non
     )
     if row is None:
         return None
-    began = looks.at.get((site, row["edition"]))
-    if row["kind"] == "complete" and (began is None or book.uptime() - began > BEFORE_COMPLETE):
-        return LookWork(site, row["edition"], all_there(book, site, row["edition"]))
+    if row["kind"] == "complete":
+        some = looks.older(site, all_there(book, site, row["edition"]), book.uptime() - BEFORE_COMPLETE)
+        if some:
+            return LookWork(site, row["edition"], some)
     return SendWork(row["id"], site, row["edition"])
 
 
@@ -213,11 +223,9 @@ def look_work(book: Book, site: str, looks: Looks, timeout: float) -> LookWork |
         "SELECT DISTINCT e.id FROM edition e JOIN site s ON s.edition = e.id WHERE e.state = 'open' AND s.name = ?",
         site,
     ):
-        began = looks.at.get((site, row["id"]))
-        if began is None or now - began >= HOURLY:
-            some = all_there(book, site, row["id"])
-            if some:
-                return LookWork(site, row["id"], some)
+        some = looks.older(site, all_there(book, site, row["id"]), now - HOURLY)
+        if some:
+            return LookWork(site, row["id"], some)
     return None
 
 
