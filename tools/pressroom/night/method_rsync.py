@@ -13,7 +13,6 @@ from collections.abc import Iterable, Mapping, Sequence
 from typing import Any
 
 from pressroom.night.bounded import Late, TooMuch, call
-from pressroom.night.escapes import shown
 from pressroom.night.method import ACK, READY, SUMS, Fault, Seen, is_complete
 
 # rsync's statuses (errcode.h of rsync 3.2, and its manual), and whether the site or the way to it is at fault.
@@ -92,11 +91,12 @@ class Rsync:
 
     def ready(self, folder: str, text: bytes) -> None:
         """Sends READY alone, and compares it."""
-        # Only COMPLETE makes its own folder: where the plates' folder is gone, READY must not come.
+        # Only COMPLETE makes its own folder. To a file's path rsync makes none: where the folder of the plates
+        # is gone, READY doesn't come.
         made = ["--mkpath"] if is_complete(folder) else []
         with tempfile.TemporaryDirectory() as own:
             path, to = written(own, READY, text), self.path(folder) + "/"
-            self.call("--fsync", *made, "--chmod=F644", "--ignore-times", "--", path, to)
+            self.call("--fsync", *made, "--chmod=F644", "--ignore-times", "--", path, to + READY)
             if self.call("-n", "--checksum", "--itemize-changes", "--", path, to):
                 raise Fault("READY compares as something else")
 
@@ -170,10 +170,10 @@ def fault_of(status: int, note: bytes) -> Ended:
         network = True
     else:
         why, network = STATUSES.get(status, (f"rsync ended with status {status}", True))
-        line = next((line for line in text.splitlines() if line.strip(" @")), "")
+        line = next((line for line in text.split("\n") if line.strip(" @")), "")
         why += f": {line}" if line else ""
     # With status 1 nothing was begun.
-    fault = Ended(shown(why), network=network, host_key=host_key, begun=status != 1)
+    fault = Ended(why, network=network, host_key=host_key, begun=status != 1)
     fault.status = status
     return fault
 
