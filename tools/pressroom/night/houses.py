@@ -17,7 +17,9 @@ class Editions(Protocol):
     pair_plan: Callable[..., tuple[Plan, Plan]]
     whole_plan: Callable[..., Plan]
     method: Callable[..., dict[str, Any] | None]
-    Fault: type[Exception]
+
+    @property
+    def Fault(self) -> type[Exception]: ...
 
 
 class Houses:

@@ -20,6 +20,7 @@ from pressroom.base.ask import program_path
 from pressroom.night import begin, edition, houses
 from pressroom.night.book import Book
 from pressroom.night.folders import Folders
+from pressroom.night.night_keys import NightHouse
 from pressroom.night.journal import Busy, Journal, Unusable
 from pressroom.night.runner import Runner
 from pressroom.night.service import Output, Service, watch_signals
@@ -52,7 +53,7 @@ def leave(status: int, text: str) -> int:
     return status
 
 
-def targets_of(house: "houses.Any") -> list[str]:
+def targets_of(house: NightHouse) -> list[str]:
     """Returns the mounted folders of sites, into which jobs may write."""
     return [target["target"] for target in house.targets.values() if target["name"] == "folder"]
 

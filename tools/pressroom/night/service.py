@@ -5,7 +5,6 @@ little of what came, starts what is due, prints the new events, and tells system
 job, a site, a disk of an uploader, or a client.
 """
 import json
-import os
 import selectors
 import signal
 import sqlite3
@@ -15,7 +14,7 @@ from collections.abc import Callable
 from dataclasses import dataclass
 from typing import Any, TextIO
 
-from pressroom.night import begin, events, houses, pauses, scheduler, status, versions
+from pressroom.night import apply, begin, events, gauges, houses, pauses, retire, scheduler, status, versions
 from pressroom.night.asked import Asked
 from pressroom.night.book import Book
 from pressroom.night.desk import Answer
@@ -70,7 +69,7 @@ class Service:
         self.ends = False
         self.scan_seconds, self.scanned = 0.0, 0.0
         self.scan_fault: str | None = None
-        self.timeout = 900.0
+        self.timeout, self.gauges_fault = 900.0, ""
         for work, every in (
             (self.look_in, ROUND),
             (self.see_house, 5.0),
@@ -206,6 +205,22 @@ class Service:
         ]
         self.timeout = longest_timeout(self.room, open_editions) or 60.0
         self.book.journal.keep_reserve()
+        house = self.houses.now()
+        if house is not None:
+            retire.retire(self.book, self.folders, house[1].night.keep)
+            self.write_gauges(house[1].night.metrics)
+
+    def write_gauges(self, path: str | None) -> None:
+        """Writes the file of metrics, where the house names one."""
+        if path is None:
+            return
+        try:
+            gauges.write(path, gauges.text(self.book, self.folders.spool, self.scanned))
+        except OSError as error:
+            if self.gauges_fault != str(error):
+                self.gauges_fault = str(error)
+                with self.book.journal.transaction():
+                    self.book.tell("alert", why=f"metrics can't be written: {error}")
 
     def tell_alerts(self) -> None:
         """Tells each wait once that lasts longer than the house's time."""
@@ -269,9 +284,7 @@ class Service:
         )
 
     def apply(self, edition: str, dry: bool, who: str) -> Answer:
-        """Applies the house in force to an edition: see apply.py."""
-        from pressroom.night import apply
-
+        """Applies the house in force to an edition."""
         return apply.apply(self.book, self.houses, edition, dry, who)
 
 
@@ -279,9 +292,3 @@ def watch_signals(service: Service) -> None:
     """SIGTERM and SIGINT end the service after its round."""
     for number in (signal.SIGTERM, signal.SIGINT):
         signal.signal(number, service.end)
-
-
-def free_of(path: str) -> int:
-    """Returns the free bytes of a path's disk."""
-    room = os.statvfs(path)
-    return room.f_bavail * room.f_frsize
