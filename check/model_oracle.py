@@ -54,6 +54,9 @@ class Oracle:
                 for place in places if s == site else ():
                     self.need(self.in_force(place)[0], "begins before the edition is whole", site, place)
 
+    def believe_verified(self, site, text):
+        self.verified.add((site, text))
+
     def believe_leaving(self, pair, plates):
         """The newest arrival has a verdict, and what prints is the newest that isn't bad, approved as this arrival."""
         pages = self.right(plates)["K"].split()[2:] if pair else ()

@@ -307,10 +307,10 @@ class Service:
             if how != "same":
                 return self.pause("whole", key)
             self.db.execute("INSERT OR IGNORE INTO whole VALUES (?, ?, ?)", [site, text, self.tick])
+            name = self.one("SELECT name FROM site WHERE id = ?", int(site))
+            self.claims.append(("verified", {"site": name, "text": text}))
 
         self.txn("whole", work)
-        if how == "same":
-            self.verified.add((self.one("SELECT name FROM site WHERE id = ?", int(site)), text))
 
     def complete(self):
         def work():

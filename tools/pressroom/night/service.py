@@ -70,6 +70,7 @@ class Service:
         self.scan_seconds, self.scanned = 0.0, 0.0
         self.scan_fault: str | None = None
         self.timeout, self.gauges_fault = 900.0, ""
+        self.started, self.next_due = (-1, -1), 0.0
         for work, every in (
             (self.look_in, ROUND),
             (self.see_house, 5.0),
@@ -108,13 +109,13 @@ class Service:
                 work()
         more = self.copy_some()
         self.workers.end_late()
-        self.workers.start_due(self.timeout)
+        self.start_due()
         self.print_events()
         for client in self.sockets.followers():
             self.asked.tell(client)
         self.sockets.flush_all()
         self.notify.tell("WATCHDOG=1")
-        for key, mask in self.selector.select(0 if more else self.patience()):
+        for key, mask in self.selector.select(0 if more else self.patience(ROUND)):
             handle = key.fd
             if key.data is self.workers:
                 if handle in self.workers.running:
@@ -122,10 +123,19 @@ class Service:
             else:
                 self.sockets.heard(handle, mask)
 
-    def patience(self) -> float:
-        """Returns the seconds until something is due by time."""
-        waits = [ROUND, pauses.next_end(self.book), scheduler.next_look(self.book, self.timeout)]
-        return max(0.02, min(wait for wait in waits if wait is not None))
+    def start_due(self) -> None:
+        """Starts what is due, if the journal changed, a job ended, or the time came at which something is due."""
+        state = self.book.journal.db.total_changes, len(self.workers.running)
+        if state == self.started and self.book.uptime() < self.next_due:
+            return
+        self.workers.start_due(self.timeout)
+        self.started = self.book.journal.db.total_changes, len(self.workers.running)
+        waits = [MINUTE, pauses.next_end(self.book), scheduler.next_look(self.book, self.timeout)]
+        self.next_due = self.book.uptime() + min(wait for wait in waits if wait is not None)
+
+    def patience(self, most: float) -> float:
+        """Returns the seconds until something is due by time, at most so many."""
+        return max(0.02, min(most, self.next_due - self.book.uptime()))
 
     def end(self, *_: Any) -> None:
         """Ends the loop after this round: the signals' handler."""

@@ -3,6 +3,7 @@
 Who gives a command is said by the kernel: the name of the peer's user. Only the board's user may name another. A client
 that reads too slowly is cut off; none can make the service wait.
 """
+import grp
 import json
 import os
 import pwd
@@ -14,6 +15,8 @@ from typing import Any
 
 MOST_LINE, MOST_BUFFER, MOST_CLIENTS = 65_536, 8_000_000, 200
 BOARD = "pressroom-board"
+# The sockets with the groups of those who may use them.
+GROUPS = {"desk.sock": "pressroom-desk", "look.sock": "pressroom-look"}
 NAME = 64
 Answer = Callable[["Client", dict[str, Any]], dict[str, Any] | None]
 
@@ -57,7 +60,7 @@ class Sockets:
     def __init__(self, run: str, selector: selectors.BaseSelector, answer: Answer):
         self.run, self.selector, self.answer = run, selector, answer
         self.clients: dict[int, Client] = {}
-        self.listening = {name: listen(os.path.join(run, name)) for name in ("desk.sock", "look.sock")}
+        self.listening = {name: listen(os.path.join(run, name), group) for name, group in GROUPS.items()}
         for sock in self.listening.values():
             selector.register(sock, selectors.EVENT_READ, self)
 
@@ -161,8 +164,11 @@ class Sockets:
                 pass
 
 
-def listen(path: str) -> socket.socket:
-    """Listens at a path. Only the service with the journal's lock comes here, so what is there is a dead one's."""
+def listen(path: str, group: str) -> socket.socket:
+    """Listens at a path, for the service's user and a group, where this machine has it.
+
+    Only the service with the journal's lock comes here, so what is there is a dead one's.
+    """
     try:
         os.unlink(path)
     except FileNotFoundError:
@@ -171,6 +177,10 @@ def listen(path: str) -> socket.socket:
     sock.setblocking(False)
     sock.bind(path)
     os.chmod(path, 0o660)
+    try:
+        os.chown(path, -1, grp.getgrnam(group).gr_gid)
+    except (KeyError, PermissionError):
+        pass  # A trial by hand: only its own user gives commands.
     sock.listen(64)
     return sock
 

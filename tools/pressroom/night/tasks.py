@@ -303,9 +303,7 @@ def method_of(room: Room, edition: int, site: str) -> dict[str, Any]:
     method = room.houses.editions.method(room.houses.of(edition), site)
     if method is not None:
         return method
-    target = room.folders.path("out", site)
-    os.makedirs(target, mode=0o750, exist_ok=True)
-    return {"name": "folder", "target": target}
+    return {"name": "folder", "target": room.folders.path("out", site), "make": True}
 
 
 def timeout_of(room: Room, edition: int, site: str) -> float:
