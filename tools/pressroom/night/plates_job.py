@@ -84,11 +84,12 @@ def names_of(plan: Plan) -> list[str]:
 
 
 def pair_names(plan: Plan, names: Iterable[str]) -> list[str]:
-    """Returns the names of the plates of the pair for which a plan was made: its left page has the name
-    `left`."""
+    """Returns the names of the plates of the pair for which a plan was made: its pages are `left` and `right`,
+    and its number is that of the one nearer to the front."""
     for section in plan["sections"]:
-        if "left" in section["pages"]:
-            start = f"{plan['edition']}-{section['name']}-{section['pages'].index('left') + 1:03}-"
+        if {"left", "right"} <= set(section["pages"]):
+            number = min(section["pages"].index(side) for side in ("left", "right")) + 1
+            start = f"{plan['edition']}-{section['name']}-{number:03}-"
             return sorted(name for name in names if name.startswith(start))
     raise Failed("the plan has no pair that is to be made")
 
