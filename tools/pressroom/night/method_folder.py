@@ -11,7 +11,7 @@ from collections.abc import Iterator, Mapping, Sequence
 from contextlib import contextmanager
 from typing import Any
 
-from pressroom.night.below import FILE, FOLDER, write_all
+from pressroom.night.below import FILE, FOLDER, sync_folder, write_all
 from pressroom.night.method import ACK, READY, SUMS, Fault, Seen, is_complete
 
 NO_LINK = (errno.EXDEV, errno.EPERM, errno.EMLINK, errno.EOPNOTSUPP, errno.ENOSYS)
@@ -21,12 +21,14 @@ CHUNK = 1 << 20
 
 
 class Folder:
-    """A site's folder on this machine: its description has `target`, the folder's absolute path."""
+    """A site's folder on this machine: its description has `target`, the folder's absolute path. With `make` it
+    is made where it is missing, below a folder that must be there."""
 
     keeps = True
 
     def __init__(self, keys: Mapping[str, Any]) -> None:
         self.target: str = keys["target"]
+        self.make = bool(keys.get("make"))
 
     @staticmethod
     def takes(target: str) -> bool:
@@ -66,6 +68,9 @@ class Folder:
     def top(self) -> int:
         """Opens the site's folder, which the house chose: it may be a link."""
         try:
+            if self.make and not os.path.isdir(self.target):
+                os.mkdir(self.target, 0o755)
+                sync_folder(os.path.dirname(self.target))
             return os.open(self.target, os.O_RDONLY | os.O_DIRECTORY | os.O_CLOEXEC)
         except OSError as error:
             raise Fault(f"{self.target}: {error.strerror}; is it mounted?", begun=False) from None

@@ -211,6 +211,16 @@ def test_a_folder_that_isn_t_mounted_is_the_network_s_fault(tmp_path: Path) -> N
     assert not (tmp_path / "none").exists()
 
 
+def test_the_spool_s_own_folder_of_a_site_is_made(tmp_path: Path) -> None:
+    site = folder_site(tmp_path)
+    site.keys |= {"target": str(tmp_path / "out" / "OSLO"), "make": True}
+    assert site.plates()["network"] is True and not (tmp_path / "out").exists()
+    (tmp_path / "out").mkdir()
+    assert site.look() == {"seen": {}, "acked": []}
+    assert site.plates() == {"there": True}
+    assert (tmp_path / "out" / "OSLO" / AT / "SHA256SUMS").exists()
+
+
 @pytest.mark.parametrize("part", ["MON", "MON/A-002", AT])
 def test_links_below_a_mounted_folder_aren_t_followed(tmp_path: Path, part: str) -> None:
     site, private = folder_site(tmp_path), tmp_path / "private"
