@@ -9,13 +9,21 @@ from pressroom import __version__
 # needs only its own libraries.
 COMMANDS = {
     "intake": "make plans and files from the PDFs of a night",
+    "approve": "approve a page of the night as you saw it",
+    "cancel": "cancel an edition of the night",
     "check": "report every fault of a plan and its files, and what would be lost without a fault",
+    "hold": "hold a page of the night until it is released",
+    "house": "apply the house file to an edition that is under way",
     "late": "remake the plates that a late page changes, as a new version of the edition",
     "make": "make the plates of an edition: check, run, verify, READY",
     "night": "make one pass over a spool of editions, for systemd or cron",
     "parts": "cut an edition into parts for several machines",
     "ppf": "write ink key files (CIP3 PPF) and tables of ink keys",
     "proof": "draw a picture of what a site's plates print",
+    "reject": "reject a page of the night, with a word",
+    "release": "release a page that was held",
+    "resend": "send plates to a site again",
+    "status": "show the night: pages, pairs at sites, faults, and what comes next",
     "tile": "write a clustered threshold tile for a plan",
     "web": "make a proof of an edition's plates for the browser",
 }

@@ -1,4 +1,4 @@
 """The command `pressroom night`."""
-from pressroom.night.night import main
+from pressroom.night.serve import main
 
 __all__ = ["main"]

@@ -52,8 +52,8 @@ class Journal:
         self.folder, self.db, self.lock, self.epoch = folder, db, lock, 0
 
     @classmethod
-    def open(cls, folder: str) -> "Journal":
-        """Opens the journal of a folder, which is made if it is missing.
+    def open(cls, folder: str, begins: bool = True) -> "Journal":
+        """Opens the journal of a folder, which is made if it is missing. `begins`: for a service, so an epoch begins.
 
         Raises Busy while another service has it, Unusable where it is damaged or of a newer program, OSError where
         the folder can't be written.
@@ -71,6 +71,8 @@ class Journal:
             db = connect(path)
             journal = cls(folder, db, lock)
             journal.prepare()
+            if begins:
+                journal.begin()
         except BaseException as error:
             if db is not None:
                 db.close()
@@ -81,7 +83,7 @@ class Journal:
         return journal
 
     def prepare(self) -> None:
-        """Tests the file, migrates it, and begins an epoch."""
+        """Tests the file, and migrates it."""
         os.chmod(os.path.join(self.folder, NAME), 0o600)
         said = self.value("PRAGMA quick_check(1)")
         if said != "ok":
@@ -90,6 +92,9 @@ class Journal:
         if self.value("SELECT count(*) FROM spool") == 0:
             with self.transaction():
                 self.db.execute("INSERT INTO spool (one, id) VALUES (1, ?)", [secrets.token_hex(8)])
+
+    def begin(self) -> None:
+        """Begins an epoch."""
         with self.transaction():
             self.db.execute("UPDATE spool SET epoch = epoch + 1")
         self.epoch = int(self.value("SELECT epoch FROM spool"))

@@ -15,6 +15,7 @@ import os
 import shutil
 import sqlite3
 import sys
+import time
 
 from pressroom.base.ask import program_path
 from pressroom.night import begin, edition, houses
@@ -27,6 +28,8 @@ from pressroom.night.service import Output, Service, watch_signals
 from pressroom.night.sockets import run_folder
 
 ENDED, CANT_BEGIN, SPOOL_FAULT, IN_USE = 0, 2, 3, 5
+# How long a service waits for the one before it, in seconds.
+PATIENCE = 30.0
 HOUSE = "/etc/pressroom/house.toml"
 OLD = "this spool is of an older pressroom: `pressroom migrate SPOOL` brings it up to date"
 
@@ -79,7 +82,7 @@ def main() -> int:
     folders = Folders(words.spool)
     try:
         folders.make()
-        journal = Journal.open(folders.path("journal"))
+        journal = open_journal(folders)
     except Busy:
         return leave(IN_USE, f"another service has {folders.spool}")
     except (OSError, Unusable) as error:
@@ -94,6 +97,21 @@ def main() -> int:
         held=[journal.lock],
     )
     return serve(book, folders, houses.Houses(book, edition, house_file), runner, words)
+
+
+def open_journal(folders: Folders) -> Journal:
+    """Opens the journal. Where another service has it, or its last jobs, it waits for a while, and says so."""
+    end, told = time.monotonic() + PATIENCE, False
+    while True:
+        try:
+            return Journal.open(folders.path("journal"))
+        except Busy:
+            if time.monotonic() > end:
+                raise
+            if not told:
+                leave(IN_USE, f"waits for another service on {folders.spool}")
+            told = True
+            time.sleep(0.2)
 
 
 def serve(
