@@ -28,6 +28,9 @@ COMMANDS = {
     "web": "make a proof of an edition's plates for the browser",
 }
 
+# Commands that no user gives: a job of the night is started by systemd or by the service.
+INTERNAL = {"job"}
+
 USAGE = """usage: pressroom COMMAND [ARGUMENT ..]
        pressroom COMMAND --help
        pressroom --version
@@ -47,7 +50,7 @@ def main():
             print(f"  {name:{width}}  {summary}")
         return 0 if words else 2
     name = words[0]
-    if name not in COMMANDS:
+    if name not in COMMANDS and name not in INTERNAL:
         print(f"pressroom: no command {name!r}; `pressroom --help` lists them", file=sys.stderr)
         return 2
     sys.argv = [f"pressroom {name}", *words[1:]]
