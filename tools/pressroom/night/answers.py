@@ -9,7 +9,7 @@ INKS = re.compile(r"[CMYKS]{1,5}")
 SHA = re.compile(r"[0-9a-f]{64}")
 PLATE = re.compile(r"[A-Za-z0-9_][A-Za-z0-9_.-]{0,99}\.tif")
 KEY = re.compile(r"[a-z_]{1,16}")
-MOST_NOTES, MOST_PLATES = 100, 16
+MOST_NOTES, MOST_PLATES, MOST_TEXT = 100, 16, 300
 
 
 class Wrong(Exception):
@@ -19,6 +19,11 @@ class Wrong(Exception):
 def need(so: object, what: str) -> None:
     if not so:
         raise Wrong(what)
+
+
+def clean(text: str) -> str:
+    """Returns a job's text as one line. An honest job has escaped it already, and it isn't escaped twice."""
+    return text[:MOST_TEXT] if text.isprintable() else shown(text)
 
 
 def seconds(answer: dict[str, Any]) -> float:
@@ -60,7 +65,7 @@ def notes(answer: dict[str, Any]) -> list[str]:
     """Returns a page's notes, each as one line."""
     given = answer.get("notes", [])
     need(isinstance(given, list) and all(isinstance(note, str) for note in given), "notes")
-    return [shown(note) for note in given[:MOST_NOTES]]
+    return [clean(note) for note in given[:MOST_NOTES]]
 
 
 def fault(answer: dict[str, Any]) -> PageFault:
@@ -75,7 +80,7 @@ def fault(answer: dict[str, Any]) -> PageFault:
             "a fault's place",
         )
     need(isinstance(given.get("kind"), str) and isinstance(given.get("text"), str), "a fault")
-    return {"kind": shown(given["kind"])[:40], "text": shown(given["text"]), "at_mm": at}
+    return {"kind": clean(given["kind"])[:40], "text": clean(given["text"]), "at_mm": at}
 
 
 def plates(answer: dict[str, Any]) -> tuple[dict[str, str], list[str], str]:
@@ -94,5 +99,5 @@ def why(answer: dict[str, Any], *keys: str) -> str:
     """Returns the first text of an answer that says why it failed."""
     for key in keys:
         if isinstance(answer.get(key), str):
-            return shown(answer[key])
+            return clean(answer[key])
     return "it gave no reason"

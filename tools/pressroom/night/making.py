@@ -3,7 +3,6 @@ from collections.abc import Mapping, Sequence
 
 from pressroom.night import pauses, versions
 from pressroom.night.book import Book, pair_name
-from pressroom.night.records import shown
 
 
 def key_of(left: int, right: int, making: str) -> str:
@@ -67,7 +66,7 @@ def failed(book: Book, left: int, right: int, making: str, why: str) -> None:
     some = wanting(book, left, right, making)
     about = {"edition": some[0][1], "pair": some[0][2]} if some else {}
     with book.journal.transaction():
-        pauses.enter(book, "plates", key_of(left, right, making), "machine", shown(why), **about)
+        pauses.enter(book, "plates", key_of(left, right, making), "machine", why, **about)
 
 
 def not_whole(book: Book, site: int, why: str) -> None:
@@ -78,5 +77,5 @@ def not_whole(book: Book, site: int, why: str) -> None:
     assert row is not None
     with book.journal.transaction():
         pauses.enter(
-            book, "whole", str(site), "machine", shown(why), edition=row["edition"], site=row["name"]
+            book, "whole", str(site), "machine", why, edition=row["edition"], site=row["name"]
         )

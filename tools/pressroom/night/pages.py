@@ -81,7 +81,6 @@ def accepted(
     seconds: float,
 ) -> None:
     """Enters intake's verdict that a page is good, whose layers are in renders/`folder`, synced."""
-    notes = [shown(note) for note in notes]
     with book.journal.transaction() as db:
         places = places_of(book, sha, settings)
         values = [
@@ -121,7 +120,7 @@ def refused(book: Book, sha: str, settings: str, fault: PageFault) -> None:
                 "SELECT a.at FROM page g JOIN arrival a ON a.id = g.arrival WHERE g.place = ?", row["place"]
             )
             about = {"edition": row["name"], "page": str(PageKey(row["zone"], row["section"], row["number"]))}
-            more = {"kind": fault["kind"], "fault": shown(fault["text"]), "at_mm": fault["at_mm"]}
+            more = {"kind": fault["kind"], "fault": fault["text"], "at_mm": fault["at_mm"]}
             book.tell("refused", **about, sha=sha, still=still, **more)
         for edition in {row["edition"] for row in places}:
             versions.settle(book, edition)
@@ -135,4 +134,4 @@ def failed(book: Book, sha: str, settings: str, fault: str, why: str) -> None:
         if places:
             row = places[0]
             about = {"edition": row["name"], "page": str(PageKey(row["zone"], row["section"], row["number"]))}
-        pauses.enter(book, "page", f"{sha} {settings}", fault, shown(why), **about)
+        pauses.enter(book, "page", f"{sha} {settings}", fault, why, **about)

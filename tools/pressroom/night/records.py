@@ -10,7 +10,9 @@ from collections.abc import Mapping, Sequence
 from dataclasses import dataclass
 from typing import Any, Literal, NamedTuple, Protocol, TypedDict
 
-from pressroom.night.escapes import shown as shown
+from pressroom.night import escapes
+
+shown = escapes.shown
 
 # The most bytes of one message between the service and a job; what is longer goes through a handle.
 MESSAGE = 100_000

@@ -120,4 +120,4 @@ def fault_of(error: OSError) -> str:
     """Returns the text of an error of the machine, with its file."""
     name = error.filename2 or error.filename
     words = error.strerror or str(error)
-    return f"{name}: {words}" if name else words
+    return answers.clean(f"{name}: {words}" if name else words)
