@@ -16,6 +16,7 @@ COMMANDS = {
     "house": "apply the house file to an edition that is under way",
     "late": "remake the plates that a late page changes, as a new version of the edition",
     "make": "make the plates of an edition: check, run, verify, READY",
+    "migrate": "bring a spool of an older pressroom up to date",
     "night": "run the night's service: pages in, pairs out, all evening",
     "parts": "cut an edition into parts for several machines",
     "ppf": "write ink key files (CIP3 PPF) and tables of ink keys",

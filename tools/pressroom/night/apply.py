@@ -5,7 +5,7 @@ never taken away: that is refused.
 """
 from dataclasses import dataclass, field
 
-from pressroom.night import versions
+from pressroom.night import due
 from pressroom.night.begin import leave_by, press_at
 from pressroom.night.book import Book, Refused
 from pressroom.night.desk import Answer
@@ -54,7 +54,7 @@ def apply(book: Book, all_houses: Houses, edition: str, dry: bool, who: str) -> 
             enter(book, row, now[0], old, new)
             total = book.journal.value("SELECT sum FROM house WHERE id = ?", now[0])
             book.tell("applied", edition=edition, who=who, house=total[:4], told=change.told())
-            versions.settle(book, row)
+            due.settle(book, row)
     return Answer(change.told(), {"pairs": change.pairs, "sites": change.sites, "pages": change.pages})
 
 

@@ -8,7 +8,7 @@ from collections.abc import Callable
 from dataclasses import dataclass, field
 from typing import Any
 
-from pressroom.night import versions
+from pressroom.night import due
 from pressroom.night.book import Book, Refused, pair_name
 from pressroom.night.records import shown
 
@@ -75,7 +75,7 @@ def act(
                     "word": shown(asker.word),
                 }
                 book.tell(name, **about, **kinds)
-                versions.settle(book, row)
+                due.settle(book, row)
             else:
                 return Answer(f"{page} was {name} already")
     except sqlite3.IntegrityError as error:
@@ -164,7 +164,7 @@ def resend(
         count = sum(ask_again(book, edition, site, p, ink, shown(reason), asker) for p in pairs)
         if not count:
             raise Refused(f"{site} has no such plate yet, so nothing is sent again")
-        versions.settle(book, row)
+        due.settle(book, row)
     return Answer(f"{site}: {count} to be sent again", {"count": count})
 
 
@@ -175,7 +175,7 @@ def ask_again(
     if pair["version"] is None:
         return False
     plates = book.journal.value("SELECT plates FROM version WHERE id = ?", pair["version"])
-    names = list(versions.plates_of(book, plates))
+    names = list(due.plates_of(book, plates))
     plate = None
     if ink is not None:
         plate = next((name for name in names if name.endswith(f"-{ink}.tif") or name == ink), None)
@@ -211,7 +211,7 @@ def cancel(book: Book, edition: str, asker: Asker) -> Answer:
         )
         db.execute("UPDATE edition SET state = 'cancelled' WHERE id = ?", [row])
         book.tell("cancelled", edition=edition, who=asker.who, by=asker.who, had=had, may_be_out=out)
-        versions.settle(book, row)
+        due.settle(book, row)
     words = [f"{edition} is cancelled"] + [
         f"{site} has {count} pairs" for site, count in had.items() if count
     ]

@@ -1,7 +1,7 @@
 """Enters the plates of pairs, and attempts at them that failed."""
 from collections.abc import Mapping, Sequence
 
-from pressroom.night import pauses, versions
+from pressroom.night import due, pauses
 from pressroom.night.book import Book, pair_name
 
 
@@ -58,7 +58,7 @@ def made(
                 shared=sites,
             )
         for number in dict.fromkeys(number for number, *_ in some):
-            versions.settle(book, number)
+            due.settle(book, number)
 
 
 def failed(book: Book, left: int, right: int, making: str, why: str) -> None:
@@ -76,6 +76,4 @@ def not_whole(book: Book, site: int, why: str) -> None:
     )
     assert row is not None
     with book.journal.transaction():
-        pauses.enter(
-            book, "whole", str(site), "machine", why, edition=row["edition"], site=row["name"]
-        )
+        pauses.enter(book, "whole", str(site), "machine", why, edition=row["edition"], site=row["name"])

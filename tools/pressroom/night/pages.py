@@ -4,7 +4,7 @@ import sqlite3
 from collections.abc import Sequence
 from typing import Any
 
-from pressroom.night import pauses, versions
+from pressroom.night import due, pauses
 from pressroom.night.book import Book
 from pressroom.night.records import Found, PageFault, PageKey, Taken, Unfit, shown
 
@@ -31,7 +31,7 @@ def arrived(book: Book, edition: int, key: PageKey, found: Found, taken: Taken) 
         about = {"edition": name, "page": str(key), "file": where, "sha": taken.sha}
         book.tell("arrived" if is_new else "same", **about, bytes=taken.size)
         pauses.clear(book, "take", found.stamp, edition=name)
-        versions.settle(book, edition)
+        due.settle(book, edition)
     return is_new
 
 
@@ -103,7 +103,7 @@ def accepted(
             about = {"edition": row["name"], "page": str(PageKey(row["zone"], row["section"], row["number"]))}
             book.tell("accepted", **about, sha=sha, seconds=seconds, notes=notes)
         for edition in {row["edition"] for row in places}:
-            versions.settle(book, edition)
+            due.settle(book, edition)
 
 
 def refused(book: Book, sha: str, settings: str, fault: PageFault) -> None:
@@ -123,7 +123,7 @@ def refused(book: Book, sha: str, settings: str, fault: PageFault) -> None:
             more = {"kind": fault["kind"], "fault": fault["text"], "at_mm": fault["at_mm"]}
             book.tell("refused", **about, sha=sha, still=still, **more)
         for edition in {row["edition"] for row in places}:
-            versions.settle(book, edition)
+            due.settle(book, edition)
 
 
 def failed(book: Book, sha: str, settings: str, fault: str, why: str) -> None:

@@ -9,6 +9,7 @@ from dataclasses import dataclass, field
 from typing import Any
 
 from pressroom.night import events
+from pressroom.night import status_faults as wrong
 from pressroom.night import status_parts as parts
 from pressroom.night.book import Book
 
@@ -75,7 +76,7 @@ def event(row: Any) -> State:
 def machine_faults(book: Book) -> list[State]:
     """Returns the waits that belong to no edition: the disk, and the house file."""
     rows = book.journal.rows("SELECT * FROM pause WHERE kind IN ('disk', 'house', 'take') ORDER BY since")
-    return [parts.pause_fault(book, row, None, None, [], None) for row in rows]
+    return [wrong.pause_fault(book, row, None, None, [], None) for row in rows]
 
 
 # ---- the service
@@ -129,8 +130,8 @@ def edition(book: Book, live: Live, row: Any) -> State:
     pages = parts.pages(book, number, pairs)
     complete = parts.complete(book, number)
     sites = parts.sites(book, number, pairs)
-    faults = parts.faults(book, number, pages, pairs)
-    asks = parts.asks(pages, pairs)
+    faults = wrong.faults(book, number, pages, pairs)
+    asks = wrong.asks(pages, pairs)
     finished = len(complete) == len(sites) and bool(sites)
     state = "cancelled" if row["state"] == "cancelled" else "finished" if finished else "under-way"
     return {
@@ -145,7 +146,7 @@ def edition(book: Book, live: Live, row: Any) -> State:
         "sites": sites,
         "pages": pages,
         "pairs": pairs,
-        "next": parts.next_pair(book, pairs, sites) if state == "under-way" else None,
+        "next": wrong.next_pair(book, pairs, sites) if state == "under-way" else None,
         "faults": faults,
         "asks": asks,
         "complete": complete,

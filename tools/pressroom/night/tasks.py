@@ -8,7 +8,7 @@ from collections.abc import Iterable
 from dataclasses import dataclass
 from typing import Any, Protocol
 
-from pressroom.night import answers, houses, making, pages, pauses, versions
+from pressroom.night import answers, due, houses, making, moves, pages, pauses, versions
 from pressroom.night.book import Book
 from pressroom.night.folders import Folders
 from pressroom.night.records import OUTPUTS, Job, Kind
@@ -181,7 +181,7 @@ class WholeTask:
                 render = houses.render_of(room.book, number)
                 if render is not None:
                     renders[key] = render
-            for name in versions.plates_of(room.book, row["id"]):
+            for name in due.plates_of(room.book, row["id"]):
                 paths[name] = room.folders.path("plates", row["folder"], name)
         plan = room.houses.editions.whole_plan(room.houses.of(work.edition), planned, site, renders)
         job.ask(
@@ -221,16 +221,16 @@ class SendTask:
     def begin(self, job: Job) -> bool:
         book = self.room.book
         versions.sending(book, self.work.version)
-        row = versions.get(book, self.work.version)
+        row = moves.get(book, self.work.version)
         if row["kind"] == "complete":
             return self.leave(job)
-        names = list(versions.plates_of(book, row["plates"]))
+        names = list(due.plates_of(book, row["plates"]))
         if row["kind"] == "resend":
             names = versions.words_of(row["ready"], "expose")
         source = self.room.folders.path(
             "plates", book.journal.value("SELECT folder FROM plates WHERE id = ?", row["plates"])
         )
-        sums = versions.sums_text(book, row["plates"], names)
+        sums = due.sums_text(book, row["plates"], names)
         job.ask(self.request("plates", folder=row["folder"], source=source, names=names, sums=sums))
         return True
 
@@ -239,7 +239,7 @@ class SendTask:
         if not versions.leaving(self.room.book, self.work.version):
             return False
         self.left = True
-        row = versions.get(self.room.book, self.work.version)
+        row = moves.get(self.room.book, self.work.version)
         job.ask(self.request("ready", folder=row["folder"], text=row["ready"]))
         return True
 
@@ -269,7 +269,7 @@ class LookTask:
         self.began = room.book.uptime()
 
     def begin(self, job: Job) -> bool:
-        rows = [versions.get(self.room.book, number) for number in self.work.versions]
+        rows = [moves.get(self.room.book, number) for number in self.work.versions]
         expected = {row["folder"]: row["ready"] for row in rows}
         method = method_of(self.room, self.work.edition, self.work.site)
         job.ask({"kind": "look", "site": self.work.site, "method": method, "expected": expected})
