@@ -1,7 +1,7 @@
 """Applies the house in force to an edition that is under way: what is new is planned, what differs is made again.
 
 Before anything changes the answer says what that will be, site by site. A site or a page that the new house lacks is
-never taken away: that is refused.
+never removed: that is refused.
 """
 from dataclasses import dataclass, field
 

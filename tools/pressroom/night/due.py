@@ -1,7 +1,7 @@
 """Begins versions that are due, and drops those that will never be right again.
 
 `settle` is called at the end of each transaction that changes a page, plates or what a site has, so that the scheduler
-only ever sees versions that are wanted.
+only sees versions that its editions need.
 """
 import dataclasses
 import hashlib

@@ -9,7 +9,7 @@ class Notify:
         self.say = None
         if os.environ.get("NOTIFY_SOCKET"):
             try:
-                from systemd.daemon import notify
+                from systemd.daemon import notify  # type: ignore[import]
             except ImportError:
                 return
             self.say = notify

@@ -1,7 +1,7 @@
 """Intake of one page: the page and the house file come as handles, the layers go into files of the service.
 
 Only a complete verdict of intake refuses a page. Whatever else happens (a program is killed or missing, a
-limit is passed, the disk is full, an answer can't be had) is the machine's, and says nothing about the page.
+limit is passed, the disk is full, no answer comes) is the machine's, and says nothing about the page.
 """
 import os
 import shutil

@@ -1,7 +1,7 @@
 """Runs the night's service over a spool: pages come in all evening, and each pair leaves when its two pages are ready.
 
 SPOOL has the folders in/ (uploads, a folder an edition), store/, renders/, plates/, out/ and journal/, which are made if
-they are missing. The house file is /etc/pressroom/house.toml, or that of --house; it never lies in the spool. Each event
+they are missing. The house file is /etc/pressroom/house.toml, or that of --house; it is never in the spool. Each event
 is a line: `pressroom status SPOOL` shows what is so. The service ends at SIGTERM or SIGINT, and may be killed at any
 moment: the next one continues.
 

@@ -1,7 +1,7 @@
 """The night's service: one process, one loop, one writer of the journal.
 
 The loop waits for jobs that answer, for the sockets, and for the second's end. In each round it looks at in/, copies a
-little of what came, starts what is due, prints the new events, and tells systemd that it lives. It never waits for a
+little of what came, starts what is due, prints the new events, and reports to systemd that it lives. It never waits for a
 job, a site, a disk of an uploader, or a client.
 """
 import json

@@ -59,7 +59,7 @@ def grouped(pages: Sequence[State]) -> str:
 
 def at_site(at: State) -> str:
     """Returns a pair's state at a site."""
-    text = at["state"]
+    text = str(at["state"])
     if at["since"]:
         text += f" {hour(at['since'])}"
     if at["version"]:
