@@ -62,3 +62,10 @@ def sync_folder(path: str) -> None:
         os.fsync(handle)
     finally:
         os.close(handle)
+
+
+def settle(folder: str, target: str) -> None:
+    """Moves a folder whose files are synced to its final name, so that both survive a loss of power."""
+    sync_folder(folder)
+    os.rename(folder, target)
+    sync_folder(os.path.dirname(target))
