@@ -7,7 +7,17 @@ import press
 
 UNITS = os.path.join(press.TOP, "package", "systemd")
 # The greatest exposure that `systemd-analyze security` may find, in tenths.
-EXPOSURE = 20
+EXPOSURE = 15
+NAMES = [
+    "pressroom-failed@.service",
+    "pressroom-night.service",
+    "pressroom-page.socket",
+    "pressroom-page@.service",
+    "pressroom-plates.socket",
+    "pressroom-plates@.service",
+    "pressroom-send.socket",
+    "pressroom-send@.service",
+]
 
 
 def unit_trials(tried, paper, folder):
@@ -17,10 +27,10 @@ def unit_trials(tried, paper, folder):
     units = os.path.join(folder, "units")
     os.mkdir(units)
     for name in os.listdir(UNITS):
-        if name.startswith("pressroom") and name.endswith((".service", ".path", ".timer")):
+        if name.startswith("pressroom") and name.endswith((".service", ".socket")):
             write_unit(name, units)
     names = sorted(os.listdir(units))
-    tried.holds("units", "" if len(names) == 4 else names)
+    tried.holds("units", "" if names == NAMES else names)
     status, said = analyzed(units, "verify", "--man=no", *(name.replace("@.", "@x.") for name in names))
     tried.holds("systemd-analyze verify", f"{status}: {said}" if status or said else "")
     for name in names:
@@ -55,37 +65,64 @@ def analyzed(units, *words):
     return answer.returncode, answer.stdout + answer.stderr
 
 
-def tmpfiles(tried, folder):
-    """The folders of the spool are made with their owner."""
-    if not shutil.which("systemd-tmpfiles") or os.geteuid():
-        print("skipped: tmpfiles.d (systemd-tmpfiles isn't installed, or this isn't root)")
-        return
-    root = os.path.join(folder, "root")
+# Users and groups of the check's own root, with numbers that the machine's own users don't have.
+USERS = {"pressroom": 990, "pressroom-page": 991, "pressroom-send": 992, "pressroom-board": 993}
+GROUPS = USERS | {"pressroom-in": 994, "pressroom-desk": 995, "pressroom-look": 996}
+# Each folder of the spool: its mode, its user and its group.
+FOLDERS = {
+    "in": ("3770", "pressroom", "pressroom-in"),
+    "grab": ("0700", "pressroom", "pressroom"),
+    "store": ("0700", "pressroom", "pressroom"),
+    "making": ("2710", "pressroom", "pressroom-send"),
+    "renders": ("0700", "pressroom", "pressroom"),
+    "plates": ("2750", "pressroom", "pressroom-send"),
+    "out": ("2750", "pressroom-send", "pressroom-send"),
+    "journal": ("0700", "pressroom", "pressroom"),
+}
+
+
+def made_spool(root):
+    """Makes the folders of tmpfiles.d below a root of its own. Returns the spool, or what failed."""
     os.makedirs(os.path.join(root, "etc"))
-    for name, line in (
-        ("passwd", "pressroom:x:990:990::/var/spool/pressroom:/usr/sbin/nologin\n"),
-        ("group", "pressroom:x:990:\n"),
-    ):
+    lines = {
+        "passwd": [f"{name}:x:{number}:{number}::/:/usr/sbin/nologin" for name, number in USERS.items()],
+        "group": [f"{name}:x:{number}:" for name, number in GROUPS.items()],
+    }
+    for name, text in lines.items():
         with open(os.path.join(root, "etc", name), "w", encoding="utf-8") as file:
-            file.write(line)
-    conf = os.path.join(UNITS, "pressroom.tmpfiles")
+            file.write("\n".join(text) + "\n")
+    # An access list is read with the machine's own users, which may lack these.
+    conf = os.path.join(root, "spool.conf")
+    with open(os.path.join(UNITS, "pressroom.tmpfiles"), encoding="utf-8") as file:
+        text = file.read().replace("user:pressroom:", f"user:{USERS['pressroom']}:")
+    with open(conf, "w", encoding="utf-8") as file:
+        file.write(text)
     answer = subprocess.run(
         ["systemd-tmpfiles", "--create", f"--root={root}", conf], capture_output=True, text=True
     )
-    spool = os.path.join(root, "var", "spool", "pressroom")
-    found = (
-        {
-            name: (
-                oct(os.stat(os.path.join(spool, name)).st_mode)[-4:],
-                os.stat(os.path.join(spool, name)).st_uid,
-            )
-            for name in sorted(os.listdir(spool))
-        }
-        if os.path.isdir(spool)
-        else {}
-    )
-    wanted = {
-        name: ("2770" if name in ("in", "failed") else "0750", 990)
-        for name in ("done", "failed", "in", "out", "state", "work")
-    }
-    tried.holds("systemd-tmpfiles", "" if found == wanted else f"{found}, {answer.stderr}")
+    return os.path.join(root, "var", "spool", "pressroom"), answer.stderr
+
+
+def tmpfiles(tried, folder):
+    """The folders of the spool are made with their owners and modes, and users and groups by sysusers.d."""
+    if not shutil.which("systemd-tmpfiles") or os.geteuid():
+        print("skipped: tmpfiles.d (systemd-tmpfiles isn't installed, or this isn't root)")
+        return
+    spool, said = made_spool(os.path.join(folder, "root"))
+    found = {}
+    for name in sorted(os.listdir(spool)) if os.path.isdir(spool) else []:
+        status = os.stat(os.path.join(spool, name))
+        found[name] = (oct(status.st_mode)[-4:], status.st_uid, status.st_gid)
+    wanted = {name: (mode, USERS[user], GROUPS[group]) for name, (mode, user, group) in FOLDERS.items()}
+    tried.holds("systemd-tmpfiles", "" if found == wanted and not said else f"{found}, {said}")
+    root = os.path.join(folder, "users")
+    os.makedirs(os.path.join(root, "etc"))
+    words = ["systemd-sysusers", f"--root={root}", os.path.join(UNITS, "pressroom.sysusers")]
+    subprocess.run(words, capture_output=True, check=False)
+    names = {}
+    for name in ("passwd", "group"):
+        path = os.path.join(root, "etc", name)
+        with open(path, encoding="utf-8") as file:
+            names[name] = {line.partition(":")[0] for line in file}
+    right = set(USERS) <= names["passwd"] and set(GROUPS) <= names["group"]
+    tried.holds("systemd-sysusers", "" if right else names)

@@ -13,16 +13,29 @@ from pressroom.base.faults import Fault
 # A module is imported only when its command runs, so that a command needs only its own libraries.
 COMMANDS = {
     "intake": "make plans and files from the PDFs of a night",
+    "approve": "approve a page of the night as you saw it",
+    "cancel": "cancel an edition of the night",
     "check": "report every fault of a plan and its files, and what would be lost without a fault",
+    "hold": "hold a page of the night until it is released",
+    "house": "apply the house file to an edition that is under way",
     "late": "remake the plates that a late page changes, as a new version of the edition",
     "make": "make the plates of an edition: check, run, verify, READY",
-    "night": "make one pass over a spool of editions, for systemd or cron",
+    "migrate": "bring a spool of an older pressroom up to date",
+    "night": "run the night's service: pages in, pairs out, all evening",
     "parts": "cut an edition into parts for several machines",
     "ppf": "write ink key files (CIP3 PPF) and tables of ink keys",
     "proof": "draw a picture of what a site's plates print",
+    "reject": "reject a page of the night, with a word",
+    "release": "release a page that was held",
+    "resend": "send plates to a site again",
+    "status": "show the night: pages, pairs at sites, faults, and what comes next",
     "tile": "write a clustered threshold tile for a plan",
     "web": "make a proof of an edition's plates for the browser",
 }
+
+# Commands that no user gives: a job of the night is started by systemd or by the service.
+INTERNAL = {"job"}
+
 USAGE = """usage: pressroom COMMAND [ARGUMENT ..]
        pressroom help COMMAND
        pressroom --version
@@ -54,7 +67,7 @@ def main(words: list[str] | None = None) -> int:
         print(usage(), end="", file=sys.stdout if words else sys.stderr)
         return 0 if words else 2
     name = words[0]
-    if name not in COMMANDS:
+    if name not in COMMANDS and name not in INTERNAL:
         hint = nearest(name, COMMANDS)
         print(f"pressroom: no command {name!r}{hint}; `pressroom --help` lists them", file=sys.stderr)
         return 2

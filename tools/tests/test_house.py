@@ -8,7 +8,7 @@ import pytest
 from hypothesis import given, settings
 from hypothesis import strategies as st
 
-from pressroom.house.house import HouseFault, Place, read_house, read_keys, read_night, read_proof
+from pressroom.house.house import HouseFault, Place, read_house, read_keys, read_proof
 from pressroom.house.records import Mark, Screen, rows
 from pressroom.house.toml_lines import KeyLines
 
@@ -89,20 +89,6 @@ EDITS = [
     ),
     ("trim = [60.96, 81.28]", "trim = [5000, 5000]", r"line 3: trim: a plate would be \d+ by \d+ pixels"),
     ("limit = 400", "limit = nan", r"line 6: limit: nan isn't a limit"),
-]
-NIGHT = [
-    ('[night]\nsettle = "x"\n', "line 2: night.settle: 'x' isn't a number of 0 to 86400"),
-    ("\n[night]\nkeep = 3\nkep = 1\n", "line 4: night.kep: isn't a key of a house file"),
-    ("[night]\nkeep = 0\n", "line 2: night.keep: 0 isn't a whole number of 1 to 1000"),
-    ('[night]\nmetrics = "m.prom"\n', "line 2: night.metrics: 'm.prom' isn't an absolute path"),
-    ("[night]\nparts = 1\n", "line 2: night.parts: 1 isn't true or false"),
-    ('[delivery]\nrsync = "-z"\n', "line 2: delivery.rsync: '-z' isn't a list of options"),
-    ('[delivery]\nrsync = ["a\\tb"]\n', "line 2: delivery.rsync: 'a\\tb' isn't a list of options"),
-    ("[delivery]\ntries = 2.5\n", "line 2: delivery.tries: 2.5 isn't a whole number of 1 to 1000"),
-    ('[delivery.sites]\nOSLO = "-e sh"\n', "line 2: delivery.sites.OSLO: '-e sh' isn't a folder"),
-    ('[delivery.sites]\n"A B" = "x"\n', "line 2: delivery.sites.A B: 'A B' isn't a site's name"),
-    ("night = 1\n", "line 1: night: 1 isn't a table"),
-    ("[night\n", "not TOML: "),
 ]
 PROOF = [
     ("keys = 3", "line 1: keys: 3 isn't a table"),
@@ -193,25 +179,12 @@ def test_place_of(tmp_path: Path, text: str, place: Place | None) -> None:
     assert read_house(written(tmp_path, HOUSE)).place_of(text) == place
 
 
-@pytest.mark.parametrize(("text", "line"), NIGHT)
-def test_fault_of_the_night(tmp_path: Path, text: str, line: str) -> None:
-    with pytest.raises(HouseFault, match=re.escape(line)) as caught:
-        read_night(written(tmp_path, text))
-    assert len(caught.value.lines) == 1
-
-
-def test_night_has_defaults(tmp_path: Path) -> None:
-    night, delivery, targets = read_night(
-        written(tmp_path, '[night]\nkeep = 3\n[delivery.sites]\nOSLO = "o:p"\n')
-    )
-    assert (night.settle, night.keep, night.metrics, delivery.timeout, delivery.rsync) == (
-        60,
-        3,
-        None,
-        900,
-        (),
-    )
-    assert targets == {"OSLO": "o:p"}
+def test_a_house_of_the_night(tmp_path: Path) -> None:
+    """One file serves intake and the night: what belongs to the night is passed over, and {date} is the day."""
+    text = HOUSE.replace("[sites.OSLO]", '[sites.OSLO]\npress_start = "23:30"\nlead = 10', 1)
+    text = re.sub(r'edition = "\w+"', 'edition = "DAY{date}"', text)
+    text += '\n[night]\napprove = true\n[delivery.sites]\nOSLO = "oslo:plates"\n[zones]\nwest = ["A02"]\n'
+    assert re.fullmatch(r"DAY\d{8}", read_house(written(tmp_path, text)).edition)
 
 
 @pytest.mark.parametrize(("text", "line"), PROOF)
@@ -229,7 +202,7 @@ def test_proof_takes_what_is_there(tmp_path: Path) -> None:
 
 @pytest.mark.parametrize("name", HOSTILE)
 def test_hostile_text_is_a_named_fault(tmp_path: Path, name: str) -> None:
-    for read in (read_house, read_night, read_proof):
+    for read in (read_house, read_proof):
         with pytest.raises(HouseFault):
             read(written(tmp_path, HOSTILE[name]))
 
@@ -271,14 +244,12 @@ def test_any_bytes_are_read_or_refused(tmp_path_factory: pytest.TempPathFactory,
 
 
 def test_documents_have_each_key() -> None:
-    """tools/README.md has the keys of intake and MANUAL those of the night, with the defaults of the table."""
+    """tools/README.md has the keys of intake, with the defaults of the table."""
     top = Path(__file__).parents[2]
     readme, manual = ((top / name).read_text() for name in ("tools/README.md", "docs/MANUAL.md"))
     for name, _, default, _ in rows():
         table, _, last = name.rpartition(".")
-        if table in ("night", "delivery") and default not in ("none", "[]"):
-            assert re.search(rf"^{last} = {re.escape(default)}\b", manual, re.MULTILINE), name
-        elif not table:
+        if not table:
             assert re.search(rf"^\| `{last}` \|.*\| `?{re.escape(default)}`? \|$", readme, re.MULTILINE) or (
                 default.startswith("[")
             ), name

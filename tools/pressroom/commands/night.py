@@ -1,4 +1,4 @@
 """The command `pressroom night`."""
-from pressroom.night.night import main, parser
+from pressroom.night.serve import main, parser
 
 __all__ = ["main", "parser"]

@@ -142,10 +142,13 @@ def cmyk_profile(path: str) -> str:
 
 
 NAME = matching(r"[A-Za-z0-9_]{1,16}", "a name of 1 to 16 letters A to Z and a to z, digits and _")
+EDITION = matching(
+    r"[A-Za-z0-9_]{1,16}|(?=.{6,14}$)[A-Za-z0-9_]*\{date\}[A-Za-z0-9_]*",
+    "a name of 1 to 16 letters A to Z and a to z, digits and _, in which {date} stands for eight digits",
+)
 LENGTH = number(0, 5000, "a length of 0 to 5000 mm")
 PERCENT = number(0, 400, "a limit of 0 to 400 percent")
 TRUTH = Form("true or false", read_truth)
-PATH = matching(r"/[^\x00]*", "an absolute path")
 COLOUR_TEXT = matching(r"#[0-9A-Fa-f]{6}", 'a colour such as "#d4002a"')
 COLOUR = Form(COLOUR_TEXT.words, read_colour)
 SEPARATION = matching(r"[^\x00-\x1f]{1,60}", "the name of a separation, of 1 to 60 characters")
@@ -159,9 +162,3 @@ CURVE_POINTS = listed(
     range(2, 33),
 )
 CURVE = Form(CURVE_POINTS.words, read_curve)
-OPTIONS = listed(
-    matching(r"[^\x00-\x1f\x7f]+", 'a list of options, such as ["-e", "ssh -p 2222"]'),
-    'a list of options, such as ["-e", "ssh -p 2222"]',
-    range(1000),
-)
-TARGET = matching(r"[^-\x00-\x1f][^\x00-\x1f]*", 'a folder, such as "oslo.example:plates"')

@@ -1,10 +1,11 @@
 """Reads the house file, a TOML file with what a newspaper's editions have in common, and tests every key.
 
-`read_house(path)` returns a House. The tables `night`, `delivery` and `keys` belong to other commands, which read
-them by `read_night` and `read_proof`, each with its own tables alone. Faults are raised as HouseFault, whose lines
-each name the file, the line and the key.
+`read_house(path)` returns a House. What belongs to proofs and presses is read by `read_proof`, and what belongs to the
+night (`night`, `delivery`, `zones`, the deadlines of sites) by pressroom.night.night_keys. Faults are raised as
+HouseFault, whose lines each name the file, the line and the key.
 """
 import dataclasses
+import datetime
 import os
 import re
 import tomllib
@@ -12,7 +13,7 @@ from typing import Any
 
 from pressroom.base.files import Unreadable, read_file
 from pressroom.house import tile
-from pressroom.house.forms import NAME, TARGET, Form, Wrong, cmyk_profile, one_of, wrong
+from pressroom.house.forms import NAME, Form, Wrong, cmyk_profile, one_of, wrong
 from pressroom.house.house_keys import REQUIRED, Faults, HouseFault, Key, Keys, Path, keys_of
 from pressroom.house.records import (
     INKS,
@@ -24,11 +25,9 @@ from pressroom.house.records import (
     OTHERS,
     ZONE,
     Colour,
-    Delivery,
     House,
     InkKeys,
     Mark,
-    Night,
     Place,
     Press,
     Screen,
@@ -38,9 +37,11 @@ from pressroom.house.records import (
 )
 from pressroom.house.toml_lines import KeyLines
 
-__all__ = ["INKS", "LARGEST_TILE", "House", "HouseFault", "Place", "read_house", "read_night", "read_proof"]
+__all__ = ["INKS", "LARGEST_TILE", "House", "HouseFault", "Place", "read_house", "read_proof"]
 # Tables that other commands read and test.
-OWN_OF_OTHERS = {"night", "delivery", "keys"}
+OWN_OF_OTHERS = {"night", "delivery", "zones", "keys"}
+# Keys of a site that the night reads and tests.
+OWN_OF_NIGHT = {"press_start", "lead", "plate_seconds"}
 # The press of sites that name none, if the file describes no press.
 ONE_PRESS = "plan"
 MOST_BYTES = 1 << 18
@@ -74,23 +75,8 @@ def read_house(path: str) -> House:
     house = Reading(path, keys, keys.faults).house()
     keys.faults.end()
     assert house is not None
-    return house
-
-
-def read_night(path: str) -> tuple[Night, Delivery, dict[str, str]]:
-    """Returns the tables of a night: its rules, those of deliveries, and the target of each site that has one."""
-    keys = read_keys(path)
-    night = keys.inside("night").whole(Night)
-    tables = keys.inside("delivery")
-    targets = tables.inside("sites")
-    sites = targets.named(TARGET, "")
-    for name in sites:
-        if not re.fullmatch(r"[A-Za-z0-9_]{1,16}", name):
-            keys.faults.add(targets.path + (name,), str(wrong(name, "a site's name")))
-    delivery = tables.whole(Delivery)
-    keys.faults.end()
-    assert night is not None and delivery is not None
-    return night, delivery, sites
+    today = datetime.date.today().strftime("%Y%m%d")
+    return dataclasses.replace(house, edition=house.edition.replace("{date}", today))
 
 
 def read_proof(path: str) -> tuple[str | None, tuple[int, int, int] | None, InkKeys | None]:
@@ -240,6 +226,7 @@ class Reading:
             keys = tables.inside(name)
             own = keys.take("press", press)
             sites.append(Site(self.name(tables, name), own, keys.take("zone", ZONE)))
+            keys.left -= OWN_OF_NIGHT
             keys.end()
         for unused in set(presses) - {site.press for site in sites}:
             if self.keys.table.get("press"):

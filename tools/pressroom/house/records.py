@@ -1,6 +1,7 @@
 """The keys of a house file, as the dataclasses that hold them: type, what is accepted, meaning and default.
 
-Lengths are millimetres, limits and curves percent, times seconds. `rows` lists all keys, for documents.
+Lengths are millimetres, limits and curves percent. `rows` lists all keys, for documents. The night's own keys are in
+pressroom.night.night_keys.
 """
 import re
 from collections.abc import Iterator
@@ -12,16 +13,13 @@ from pressroom.house.forms import (
     NAMES,
     COLOUR,
     CURVE,
+    EDITION,
     INK_LETTERS,
     LENGTH,
     NAME,
-    OPTIONS,
-    PATH,
     PATTERN,
     PERCENT,
     SEPARATION,
-    TARGET,
-    TRUTH,
     listed,
     matching,
     number,
@@ -107,7 +105,9 @@ class Spot:
 class Sheet:
     """The edition, the resolution, the sizes and the pattern of file names."""
 
-    edition: str = key(NAME, "the plans' edition")
+    edition: str = key(
+        EDITION, "the plans' edition; {date} is the day of the call, of the night's edition, such as 20261203"
+    )
     dpi: int = key(
         whole(1, 10000, "a whole number of 1 to 10000 pixels an inch"), "pixels an inch of the plates"
     )
@@ -135,34 +135,6 @@ class Colour:
         None,
     )
     spots: str = key(one_of("refuse", "mix"), "separations other than the house's", "refuse")
-
-
-@dataclass(frozen=True, kw_only=True)
-class Night:
-    """The rules of a night, `[night]`."""
-
-    settle: float = key(number(0, 86400), "an edition without READY must be unchanged for this long", 60)
-    give_up: float = key(number(0, 604800), "pages that stay wrong for this long: failed/", 10800)
-    pause: float = key(number(0, 86400), "after a failed intake or make; each pause doubles", 60)
-    longest_pause: float = key(number(0, 86400), "the longest of these pauses", 1800)
-    tries: int = key(whole(1, 1000), "attempts before an edition is given up", 10)
-    keep: int = key(whole(1, 1000), "editions kept in done/ and in failed/", 14)
-    versions: int = key(whole(1, 100), "versions of an edition that are kept", 3)
-    least_free: float = key(number(0, 10**9), "megabytes: with less, nothing new begins", 2000)
-    keys: int = key(whole(0, 64), "ink keys to count", 0)
-    parts: bool = key(TRUTH, "run in parts under make", False)
-    metrics: str | None = key(PATH, "the file of metrics", None)
-
-
-@dataclass(frozen=True, kw_only=True)
-class Delivery:
-    """How plates are sent to the sites, `[delivery]`."""
-
-    pause: float = key(number(0, 86400), "after a failed delivery; each pause doubles", 30)
-    longest_pause: float = key(number(0, 86400), "the longest of these pauses", 1800)
-    tries: int = key(whole(1, 1000), "attempts before a site is given up", 20)
-    timeout: float = key(number(1, 86400), "of one call of rsync", 900)
-    rsync: tuple[str, ...] = key(OPTIONS, "further options of rsync", ())
 
 
 @dataclass(frozen=True, kw_only=True)
@@ -233,7 +205,6 @@ OTHERS = {
     "curves.INK": Key(CURVE, "the curve of an ink: points [percent, percent]", None),
     "sites.NAME.press": Key(NAME, "the site's press, if there are several", None),
     "sites.NAME.zone": ZONE,
-    "delivery.sites.NAME": Key(TARGET, "the folder that gets a site's plates", None),
 }
 TABLES: dict[str, type] = {
     "": Sheet,
@@ -241,8 +212,6 @@ TABLES: dict[str, type] = {
     "spot": Spot,
     "screens.INK": Screen,
     "marks": Mark,
-    "night": Night,
-    "delivery": Delivery,
     "keys": InkKeys,
 }
 # What one press has of its own, in a table [press.NAME].

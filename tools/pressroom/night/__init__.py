@@ -1,1 +1,1 @@
-"""The night as a service over a spool."""
+"""The night as a service: a journal, a private store, jobs of their own, and one queue a site."""

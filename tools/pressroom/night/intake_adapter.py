@@ -1,0 +1,91 @@
+"""The one place where the night calls intake: one page, by a house file's text, in a folder of its own."""
+import os
+from collections.abc import Sequence
+from dataclasses import dataclass
+
+from pressroom.intake import bitmaps
+from pressroom.base.console import Missing, need
+from pressroom.house.house import House
+from pressroom.intake.intake import PROGRAMS, Intake, see_libraries
+from pressroom.base.limits import Limits, Passed
+from pressroom.night import toml_keys
+from pressroom.night.house_reader import read_tables
+from pressroom.night.night_keys import without_own
+from pressroom.night.records import Layer
+from pressroom.intake.pdf import Refused
+
+# The limits of each program that reads a page: seconds, and megabytes of memory and of a file.
+LIMITS = Limits(seconds=120, memory=2000, output=4000)
+
+
+@dataclass(frozen=True)
+class Accepted:
+    """A page's inks in the plan's letters, its layers from the bottom up in the plan's form, and its
+    notes."""
+
+    inks: str
+    layers: Sequence[Layer]
+    notes: Sequence[str]
+
+
+@dataclass(frozen=True)
+class Refusal:
+    """What is wrong with the page: a kind of intake's faults, a text, and left, top, width, height in mm."""
+
+    kind: str
+    text: str
+    at_mm: Sequence[float] | None
+
+
+@dataclass(frozen=True)
+class NoVerdict:
+    """Why intake couldn't say whether the page is right."""
+
+    why: str
+
+
+def made(text: str, profile: str | None, name: str, kind: str, folder: str) -> Accepted | Refusal | NoVerdict:
+    """Makes the layers of the page `name` of a folder, as files in it. `profile` is a file there, or None."""
+    try:
+        need(*PROGRAMS)
+        see_libraries()
+        house = house_of(text, profile and os.path.join(folder, profile), folder)
+        page = Page(house, folder)
+        found = (
+            bitmaps.made_of(house, LIMITS, name, folder) if kind == "tiff" else page.rendered(name, folder)
+        )
+    except (toml_keys.Fault, Missing) as error:
+        return NoVerdict(str(error))
+    except Passed as error:
+        return NoVerdict(f"limit: {error}")
+    except Refused as error:
+        return Refusal(error.kind, str(error), error.place)
+    except MemoryError:
+        return NoVerdict("memory")
+    layers = [{"kind": layer.keys["kind"], "file": layer.file} | layer.keys for layer in found.layers]
+    return Accepted(found.inks, layers, [note_text(*note) for note in found.notes])
+
+
+class Page(Intake):
+    """Intake without a folder WORK: it renders, and keeps nothing."""
+
+    def __init__(self, house: House, folder: str) -> None:
+        super().__init__(house, None, LIMITS, 0)
+
+
+def house_of(text: str, profile: str | None, folder: str) -> House:
+    """Reads a house file from its text as intake needs it, with its profile at another path."""
+    file = os.path.join(folder, "house.toml")
+    top = toml_keys.tables(file, text)
+    tables = without_own(top.table, "PAGE")
+    if profile and isinstance(tables.get("colour"), dict):
+        tables["colour"] = tables["colour"] | {"profile": profile}
+    return read_tables(file, text, tables)
+
+
+def note_text(kind: str, text: str, box: Sequence[float] | None) -> str:
+    """Returns a note as intake tells it: with its place where it has one."""
+    if not box:
+        return text
+    left, top, width, height = box
+    return f"{text}, {width:g} x {height:g} mm at {left:g}, {top:g}"
