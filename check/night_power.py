@@ -2,7 +2,7 @@
 
 usage: check/night_power.py PROGRAM [--rounds N] [--seed N]
 
-A spool and the folders of two sites lie on an ext4 of their own (a file, mounted by a loop device), which is shut
+A spool and the folders of two sites are on an ext4 of their own (a file, mounted by a loop device), which is shut
 down at a random moment by EXT4_IOC_SHUTDOWN without flushing its log, as a loss of power does. Then it is mounted
 again. What was acknowledged before that moment must be there, byte for byte, and at the sites no READY may be cut
 off or without its plates. Wrong programs (nothing is synced, folders aren't, rsync doesn't sync) must be caught by

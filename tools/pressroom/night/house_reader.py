@@ -13,8 +13,9 @@ def read_tables(file: str, text: str, tables: Mapping[str, Any]) -> House:
     """Returns the house of these tables; `text` is that of the file, for the lines of faults."""
     faults = Faults(file, KeyLines(text.replace("\r\n", "\n")))
     try:
-        house: House = Reading(file, Keys(tables, (), faults), faults).house()
+        house = Reading(file, Keys(tables, (), faults), faults).house()
         faults.end()
     except HouseFault as error:
         raise Fault("; ".join(error.lines)) from None
+    assert house is not None
     return house

@@ -16,7 +16,7 @@ PARTS = ("pages", "sections", "zones", "sites")
 
 def frame(house: House, press: str) -> Plan:
     """Returns the keys of a press's plan that don't depend on pages and sites."""
-    plan: Plan = plan_of(house, house.presses[press], {})
+    plan = plan_of(house, house.presses[press], {})
     return {key: value for key, value in plan.items() if key not in PARTS}
 
 
