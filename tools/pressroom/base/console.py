@@ -10,6 +10,7 @@ import sys
 # The Debian package of each program.
 PACKAGES = {
     "gs": "ghostscript",
+    "mutool": "mupdf-tools",
     "qpdf": "qpdf",
     "pdfinfo": "poppler-utils",
     "pdffonts": "poppler-utils",

@@ -29,6 +29,7 @@ from pressroom.house.house_keys import (
     numbers,
     one_of,
     pattern,
+    truth,
     whole,
     wrong,
 )
@@ -93,6 +94,16 @@ class Spot:
 
 
 @dataclass(frozen=True)
+class Check:
+    """What intake tests of a page: `second`, what becomes of a difference from a second rendering: `note`, `fault`
+    or `off`; and `ppi`, the least pixels an inch of a picture as it is placed, 0 for any.
+    """
+
+    second: str = "note"
+    ppi: float = 0
+
+
+@dataclass(frozen=True)
 class Place:
     """A page's place: a zone or None, a section, and a number from 1."""
 
@@ -122,6 +133,8 @@ class House:
     rgb: str
     profile: str | None
     spots: str
+    overprint_black: bool
+    check: Check
     sites: tuple
     presses: dict
     tables: dict
@@ -187,6 +200,7 @@ class Reading:
         sheet = self.sheet()
         sections = self.sections()
         colour = self.colour()
+        check = self.check()
         spot = self.spot()
         presses = self.presses(sheet)
         sites = self.sites(presses)
@@ -195,7 +209,7 @@ class Reading:
             others = {name: keys.table[name] for name in OTHERS if name in keys.table}
             house = House(
                 path=self.path, **sheet, sections=sections, blank=frozenset(), spot=spot, **colour,
-                sites=sites, presses=presses, tables=others,
+                check=check, sites=sites, presses=presses, tables=others,
             )  # fmt: skip
             house = self.with_blanks(house)
             self.see_sizes(house)
@@ -252,8 +266,17 @@ class Reading:
             REQUIRED if rgb == "convert" else None,
         )
         spots = keys.take("spots", one_of("refuse", "mix"), "refuse")
+        black = keys.take("overprint_black", truth, False)
         keys.end()
-        return {"rgb": rgb, "profile": profile, "spots": spots}
+        return {"rgb": rgb, "profile": profile, "spots": spots, "overprint_black": black}
+
+    def check(self):
+        """Reads what intake tests of a page."""
+        keys = self.keys.inside("check")
+        second = keys.take("second", one_of("note", "fault", "off"), "note")
+        ppi = keys.take("ppi", number(0, 5000, "a resolution of 0 to 5000 pixels an inch"), 0)
+        keys.end()
+        return Check(second, ppi)
 
     def spot(self):
         if "spot" not in self.keys.table:

@@ -41,6 +41,12 @@ def whole(least, most, words):
     return read
 
 
+def truth(value):
+    if not isinstance(value, bool):
+        raise wrong(value, "true or false")
+    return value
+
+
 def matching(pattern, words):
     def read(value):
         if not isinstance(value, str) or not re.fullmatch(pattern, value):

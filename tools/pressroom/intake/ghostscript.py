@@ -64,30 +64,31 @@ class Ghostscript:
             raise Refused("damaged", f"damaged: {printable(said) or 'Ghostscript had to repair it'}")
         return Planes(path, size)
 
-    def separate(self, dpi, size, house, strips):
-        """Makes the page's files. Returns the result of Separations.end and the page at a low resolution.
+    def separate(self, dpi, size, house, strips, asked=None):
+        """Makes the page's files, and means over blocks if they are `asked`. Returns the result of
+        Separations.end and the page at a low resolution.
 
         With `strips`, the library paints the page strip by strip into memory. That takes less than half the
         time of planes in a file, and makes the same pixels, except on pages so small that `gs` paints them
         without bands. All other pages go through a file. So do pages on which the library fails: then `gs`
         reports what is wrong.
         """
-        painted = self.painted(dpi, size, house) if strips and size[0] * size[1] > SMALL else None
+        painted = self.painted(dpi, size, house, asked) if strips and size[0] * size[1] > SMALL else None
         if painted:
             return painted
         planes = self.render(dpi, size, "page.psd")
-        made = Separations(self.folder, size, dpi, planes.spots, house)
+        made = Separations(self.folder, size, dpi, planes.spots, house, asked)
         for number, strip in planes.strips():
             made.add(number, strip)
         os.remove(planes.path)
         return made.end(), made.seen
 
-    def painted(self, dpi, size, house):
+    def painted(self, dpi, size, house, means=None):
         """Returns what `separate` returns, made by the library, or None if the library fails."""
         import numpy as np
 
         asked = {"words": self.words(dpi, size), "pdf": self.pdf, "size": size, "dpi": dpi}
-        asked |= {"house": house, "version": self.version}
+        asked |= {"house": house, "version": self.version, "shrunk": means.words() if means else None}
         words = [sys.executable, "-B", os.path.abspath(display.__file__), json.dumps(asked)]
         try:
             status, out, note = self.limits.run(words, self.folder, "gs")

@@ -29,7 +29,9 @@ from pressroom.house.house import HouseFault, read_house
 from pressroom.intake import bitmaps, pages, profiles, state
 from pressroom.intake.ghostscript import Ghostscript
 from pressroom.intake.layers import Made, Rendering
+from pressroom.intake.opinion import Opinion, Page
 from pressroom.intake.pdf import Refused, inspect
+from pressroom.intake.separations import Spot
 from pressroom.intake.survey import above, rgb_of, thin_white
 from pressroom.plans import plans
 
@@ -58,7 +60,9 @@ class Intake:
         profiles.write_profiles(self.profiles.name, house.profile)
         _, version, _ = limits.run(["gs", "--version"], self.profiles.name)
         self.version = version.decode().strip()
-        self.settings = state.settings(house, version.decode())
+        press = os.path.join(self.profiles.name, "press.icc")
+        self.opinion = Opinion(house.check.second, press, is_house_of(house), limits)
+        self.settings = state.settings(house, version.decode() + self.opinion.version(self.profiles.name))
 
     def outcome(self, source):
         """Makes the page of a file, unless it was made before."""
@@ -106,9 +110,11 @@ class Intake:
             raise Refused("rgb", "it has RGB, which the house file refuses", rgb)
         if rgb:
             notes.append(("rgb", "RGB is converted", rgb))
-        rendering = Rendering(self.house, gs)
-        made, seen = rendering.made(inspected.strips), rendering.seen
+        rendering, page = Rendering(self.house, gs), Page(folder, copy, inspected, rgb, self.house.dpi)
+        asked = self.opinion.asked(page, rendering.size[1])
+        made, seen = rendering.made(inspected.strips, asked), rendering.seen
         notes += made.notes
+        notes += self.opinion.notes(page, asked)
         for press in self.house.presses.values():
             heavy = above(seen, press.limit)
             if heavy:
@@ -139,6 +145,11 @@ class Intake:
             os.replace(os.path.join(folder, layer.file), os.path.join(self.work.files, name))
             layers.append({"kind": layer.keys["kind"], "file": name} | layer.keys)
         return {"inks": made.inks, "layers": layers}
+
+
+def is_house_of(house):
+    """Returns a function that returns whether a name, as bytes, is that of the house's spot."""
+    return lambda name: bool(house.spot) and Spot(name, 0, ()).is_named(house.spot.separation)
 
 
 class Told:
@@ -271,6 +282,8 @@ def main():
         need(*PROGRAMS)
         see_libraries()
         house = read_house(words.house)
+        if house.check.second == "fault":
+            need("mutool")
         found, strays = pages.find(house, words.folder)
         work = state.Work(words.work)
     except HouseFault as error:
@@ -292,6 +305,9 @@ def run(words, console, house, found, strays, work):
     single = see_places(house, found, strays, told)
     order = sorted(single, key=str)
     intake = Intake(house, work, Limits(words.seconds, words.memory, words.output), words.wait)
+    if intake.opinion.missing:
+        text = "mutool is not installed, so no page is compared with what it shows: apt-get install mupdf-tools"
+        console.tell("note", text, kind="mutool")
     ready = {}
     with ThreadPoolExecutor(words.jobs) as pool:
         outcomes = pool.map(intake.outcome, [single[place] for place in order])

@@ -66,10 +66,12 @@ class Rendering:
     def __init__(self, house, gs):
         self.house, self.gs, self.size, self.notes, self.seen = house, gs, house.page_pixels(), [], None
 
-    def made(self, strips):
-        """Makes the page's layers. `strips` is whether the page may be painted in strips."""
+    def made(self, strips, asked=None):
+        """Makes the page's layers. `strips` is whether the page may be painted in strips, `asked` what means of
+        its inks are needed.
+        """
         house = self.house.spot.separation if self.house.spot else None
-        page, self.seen = self.gs.separate(self.house.dpi, self.size, house, strips)
+        page, self.seen = self.gs.separate(self.house.dpi, self.size, house, strips, asked)
         tints = []
         for spot in page["spots"]:
             if spot["house"]:

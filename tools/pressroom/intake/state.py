@@ -34,6 +34,8 @@ def settings(house, versions):
         house.spot.separation if house.spot else None,
         house.rgb,
         house.spots,
+        house.overprint_black,
+        vars(house.check),
         sum_of(house.profile) if house.profile else None,
         sorted((press.name, press.limit) for press in house.presses.values()),
     ]
