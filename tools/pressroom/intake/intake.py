@@ -26,7 +26,7 @@ from pressroom import __version__
 from pressroom.base.console import Console, Missing, need
 from pressroom.base.limits import Limits, Passed
 from pressroom.house.house import HouseFault, read_house
-from pressroom.intake import bitmaps, pages, profiles, state
+from pressroom.intake import bitmaps, observed, pages, profiles, state
 from pressroom.intake.ghostscript import Ghostscript
 from pressroom.intake.layers import Made, Rendering
 from pressroom.intake.opinion import Opinion, Page
@@ -105,16 +105,18 @@ class Intake:
             shutil.copyfile(os.path.join(self.profiles.name, profile), os.path.join(folder, profile))
         gs = Ghostscript(self.version, self.limits, name, inspected.box, folder)
         notes = [(kind, text, None) for kind, text in inspected.notes]
+        contents = observed.observe(self.limits, folder, name, inspected.trim)
+        notes += observed.notes(contents, inspected, self.house.check.ppi)
         rgb = rgb_of(gs, inspected.millimetres()) if inspected.rgb else None
         if rgb and self.house.rgb == "refuse":
             raise Refused("rgb", "it has RGB, which the house file refuses", rgb)
         if rgb:
             notes.append(("rgb", "RGB is converted", rgb))
-        rendering, page = Rendering(self.house, gs), Page(folder, copy, inspected, rgb, self.house.dpi)
+        rendering, page = Rendering(self.house, gs), self.compared(folder, copy, name, inspected, rgb, contents)
         asked = self.opinion.asked(page, rendering.size[1])
         made, seen = rendering.made(inspected.strips, asked), rendering.seen
         notes += made.notes
-        notes += self.opinion.notes(page, asked)
+        notes += self.opinion.notes(page, asked) + observed.knocked_out(contents, inspected, seen)
         for press in self.house.presses.values():
             heavy = above(seen, press.limit)
             if heavy:
@@ -123,6 +125,14 @@ class Intake:
         for place in thin_white(self.limits, name, inspected, seen, folder):
             notes.append(("white", "thin white text over four inks", place))
         return Made(made.inks, made.layers, tuple(notes))
+
+    def compared(self, folder, came, edited, inspected, rgb, contents):
+        """Returns the page for its comparison with a second rendering: of the PDF that came, or of the edited one
+        if a layer prints otherwise than it shows on the screen, because mutool shows the screen's layers.
+        """
+        name = edited if contents.print_layers else came
+        blended = contents.lab or any(kind == "blending" for kind, _ in inspected.notes)
+        return Page(folder, name, inspected, rgb, blended, self.house.dpi)
 
     def see_size(self, size):
         """Refuses a page whose trim differs from the house's by more than the tolerance."""

@@ -26,19 +26,16 @@ Note = tuple[str, str, "tuple[float, ...] | None"]
 
 @dataclass(frozen=True)
 class Page:
-    """A page that was rendered: the PDF that came, in a folder that has the means over blocks, what was found in
-    that PDF, where RGB shows, and the resolution.
+    """A page that was rendered: the PDF to compare with, in a folder that has the means over blocks, what was found
+    in that PDF, where RGB shows, whether something is blended in RGB or is Lab, and the resolution.
     """
 
     folder: str
     pdf: str
     inspected: Inspected
     rgb: tuple[float, ...] | None
+    blended: bool
     dpi: int
-
-    def is_blended(self) -> bool:
-        """Returns whether something is blended in RGB."""
-        return any(kind == "blending" for kind, _ in self.inspected.notes)
 
 
 class Opinion:
@@ -69,7 +66,7 @@ class Opinion:
         if not self.used:
             return None
         grid = second.grid_of(page.inspected, height, page.dpi)
-        return Asked(grid, bool(page.rgb) or page.is_blended())
+        return Asked(grid, bool(page.rgb) or page.blended)
 
     def notes(self, page: Page, asked: Asked | None) -> list[Note]:
         """Returns notes on how the page differs. Raises Refused if the house wants a fault."""
@@ -88,7 +85,7 @@ class Opinion:
             shown = second.render(self.limits, page.folder, page.pdf, asked.grid, self.is_house)
         except Unseen as error:
             return [(KIND, f"{PROGRAM} can't draw it: {error}", None)]
-        shows = Shows(page.rgb, page.inspected.rgb, page.is_blended(), self.colours)
+        shows = Shows(page.rgb, page.inspected.rgb, page.blended, self.colours)
         areas = differing(means, asked.grid, page.dpi, shown, self.is_house, shows)
         notes: list[Note] = [(KIND, area.text(), area.place) for area in areas[:MOST]]
         if len(areas) > MOST:
