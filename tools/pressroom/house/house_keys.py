@@ -80,14 +80,15 @@ INK_LETTERS = matching("(?=.)C?M?Y?K?S?", "some of the letters CMYKS, in this or
 
 
 def pattern(value):
-    """Reads a pattern of file names: {section}, {page}, * for anything, and text."""
-    if (
-        not isinstance(value, str)
-        or value.count("{section}") != 1
-        or value.count("{page}") != 1
-        or re.search(r"[{}/\x00-\x1f]", value.replace("{section}", "").replace("{page}", ""))
-    ):
-        raise wrong(value, "a pattern of file names with {section} and {page}, such as \"{section}{page}\"")
+    """Reads a pattern of file names: {section}, {page}, at most one {version}, * for anything, and text."""
+    words = "a pattern of file names with {section} and {page}, such as \"{section}{page}\""
+    if not isinstance(value, str) or value.count("{version}") > 1:
+        raise wrong(value, words)
+    rest = value.replace("{version}", "")
+    if any(rest.count(part) != 1 for part in ("{section}", "{page}")):
+        raise wrong(value, words)
+    if re.search(r"[{}/\x00-\x1f]", rest.replace("{section}", "").replace("{page}", "")):
+        raise wrong(value, words)
     return value
 
 

@@ -100,7 +100,7 @@ class Intake:
     def rendered(self, copy, folder):
         """Returns the inks, layers and notes of a PDF."""
         name, inspected = inspect(self.limits, copy, folder)
-        self.see_size(inspected.millimetres())
+        self.see_size(inspected)
         for profile in os.listdir(self.profiles.name):
             shutil.copyfile(os.path.join(self.profiles.name, profile), os.path.join(folder, profile))
         gs = Ghostscript(self.version, self.limits, name, inspected.box, folder)
@@ -134,17 +134,18 @@ class Intake:
         blended = contents.lab or any(kind == "blending" for kind, _ in inspected.notes)
         return Page(folder, name, inspected, rgb, blended, self.house.dpi)
 
-    def see_size(self, size):
+    def see_size(self, inspected):
         """Refuses a page whose trim differs from the house's by more than the tolerance."""
-        wanted, tolerance = self.house.trim, self.house.tolerance
+        size, wanted, tolerance = inspected.millimetres(), self.house.trim, self.house.tolerance
         if any(abs(side - right) > tolerance for side, right in zip(size, wanted)):
             over = ", ".join(
                 f"{abs(side - right):.1f} mm too {more if side > right else less}"
                 for side, right, more, less in zip(size, wanted, ("wide", "high"), ("narrow", "low"))
                 if abs(side - right) > tolerance
             )
-            text = f"trim {size[0]:.1f} x {size[1]:.1f} mm, not {wanted[0]:g} x {wanted[1]:g}: {over}"
-            raise Refused("size", text)
+            text = f"{size[0]:.1f} x {size[1]:.1f} mm, not {wanted[0]:g} x {wanted[1]:g}: {over}"
+            boxless = any(kind == "trim" for kind, _ in inspected.notes)
+            raise Refused("size", ("no trim box, and the whole page is " if boxless else "trim ") + text)
 
     def stored(self, place, key, made, folder):
         """Moves a page's files into WORK under unique names. Returns the page in the plan's form."""
@@ -163,10 +164,10 @@ def is_house_of(house):
 
 
 class Told:
-    """Reports outcomes, and counts them."""
+    """Reports outcomes, and counts them. It keeps the notes, because later steps pass them on."""
 
     def __init__(self, console):
-        self.console, self.made, self.kept = console, 0, 0
+        self.console, self.made, self.kept, self.notes = console, 0, 0, []
 
     def fault(self, name, place, kind, text, box=None):
         self.problem("fault", name, place, kind, text, box)
@@ -180,7 +181,15 @@ class Told:
             left, top, width, height = box
             fields["at"] = list(box)
             text += f", {width:g} x {height:g} mm at {left:g}, {top:g}"
-        self.console.tell(event, f"{name}: {text}", **fields)
+        if event == "note":
+            self.note(f"{name}: {text}", **fields)
+        else:
+            self.console.tell(event, f"{name}: {text}", **fields)
+
+    def note(self, text, **fields):
+        """Reports a note."""
+        self.notes.append({"text": text, **fields})
+        self.console.tell("note", text, **fields)
 
     def outcome(self, outcome):
         name, place = outcome.source.name, outcome.source.place
@@ -203,7 +212,11 @@ def see_places(house, found, strays, told):
     for name in strays:
         told.problem("note", name, None, "stray", "not a page of this edition; not used", None)
     single = {}
-    for place, sources in found.items():
+    for place, every in found.items():
+        sources, older = pages.newest(every)
+        for source in older:
+            text = f"not used: {sources[0].name} has a higher version"
+            told.problem("note", source.name, place, "version", text, None)
         if place in house.blank:
             told.fault(sources[0].name, place, "blank", f"{place} is listed as blank")
         elif len(sources) > 1:
@@ -256,7 +269,7 @@ def positive(kind, words):
     return read
 
 
-def write_plans(house, work, ready, console):
+def write_plans(house, work, ready, told):
     """Writes the plan of each press. Returns the names of the plans."""
     names = []
     for press in house.presses.values():
@@ -266,10 +279,10 @@ def write_plans(house, work, ready, console):
         total = sum(sizes.values())
         if total > plans.MOST_BYTES or max(sizes.values(), default=0) > plans.MOST_FILE:
             words = f"{name}: its files have {total} bytes; the limit is {plans.MOST_BYTES}: split it with"
-            console.tell("note", f"{words} pressroom parts", file=name, kind="bytes")
+            told.note(f"{words} pressroom parts", file=name, kind="bytes")
         changed = plans.write(os.path.join(work.path, name), plan)
         said = "written" if changed else "unchanged"
-        console.tell("plan", f"{name}: {said}", file=name, changed=changed, bytes=total)
+        told.console.tell("plan", f"{name}: {said}", file=name, changed=changed, bytes=total)
         names.append(name)
     return names
 
@@ -317,7 +330,7 @@ def run(words, console, house, found, strays, work):
     intake = Intake(house, work, Limits(words.seconds, words.memory, words.output), words.wait)
     if intake.opinion.missing:
         text = "mutool is not installed, so no page is compared with what it shows: apt-get install mupdf-tools"
-        console.tell("note", text, kind="mutool")
+        told.note(text, kind="mutool")
     ready = {}
     with ThreadPoolExecutor(words.jobs) as pool:
         outcomes = pool.map(intake.outcome, [single[place] for place in order])
@@ -328,7 +341,8 @@ def run(words, console, house, found, strays, work):
                 work.keep(outcome.source.place, outcome.key, outcome.page, outcome.notes)
     work.save(found)
     faults = console.counts.get("fault", 0)
-    names = write_plans(house, work, ready, console) if not faults or words.partial else []
+    names = write_plans(house, work, ready, told) if not faults or words.partial else []
+    work.note(told.notes)
     work.clean()
     notes = console.counts.get("note", 0)
     said = f"plans {', '.join(names)}" if names else "no plan is written"

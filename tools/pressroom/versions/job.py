@@ -28,9 +28,14 @@ class Job:
 
     def __init__(self, version, program, console):
         self.version, self.program, self.console = version, program, console
-        self.seconds, self.presses, self.sites = runs.Seconds(), {}, {}
+        self.seconds, self.presses, self.sites, self.notes = runs.Seconds(), {}, {}, []
         self.begun = time.strftime("%Y-%m-%dT%H:%M:%SZ", time.gmtime())
         self.scratch = tempfile.TemporaryDirectory(prefix="pressroom-")
+
+    def pass_on(self, notes):
+        """Reports the notes of the intake that made WORK, and keeps them for the report."""
+        self.notes = notes
+        tell_notes(self.console, notes)
 
     def check(self):
         """Returns the plans if the program accepts all of them with their files; otherwise raises Refused."""
@@ -187,9 +192,17 @@ class Job:
 
     def write_report(self, status, **more):
         plans = {"presses": self.presses, "sites": self.sites, "seconds": self.seconds.by_step}
+        plans["notes"] = self.notes
         report = {"version": self.version.name, "begun": self.begun, "status": status, **more, **plans}
         text = json.dumps(report, indent=1, ensure_ascii=False) + "\n"
         disk.write_whole(self.version.file(REPORT), text.encode())
+
+
+def tell_notes(console, notes):
+    """Reports notes as `notes_of` returns them."""
+    for note in notes:
+        fields = {key: value for key, value in note.items() if key not in ("text", "event")}
+        console.tell("note", note["text"], **fields)
 
 
 def twice(plans):

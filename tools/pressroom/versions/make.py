@@ -20,6 +20,7 @@ import shutil
 from pressroom.base import disk, runs
 from pressroom.base.ask import HERE, program_path
 from pressroom.base.console import Console, Missing, fault_of, need
+from pressroom.intake.state import notes_of
 from pressroom.plans.plan_reader import plans_of
 from pressroom.versions import version
 from pressroom.versions.job import CANT_BEGIN, OTHER_WORKS, Job, Refused
@@ -53,6 +54,7 @@ def make_locked(work, out, console, program, keys, engine, resume):
     new.take(work)
     job = Job(new, program, console)
     console.tell("begin", new.path, version=new.name)
+    job.pass_on(notes_of(work))
     try:
         plans = job.check()
     except Refused as refused:
