@@ -103,9 +103,10 @@ class Intake:
         self.see_size(inspected)
         for profile in os.listdir(self.profiles.name):
             shutil.copyfile(os.path.join(self.profiles.name, profile), os.path.join(folder, profile))
+        contents = observed.observe(self.limits, folder, name, inspected.trim, self.house.overprint_black)
+        name = contents.edited or name
         gs = Ghostscript(self.version, self.limits, name, inspected.box, folder)
         notes = [(kind, text, None) for kind, text in inspected.notes]
-        contents = observed.observe(self.limits, folder, name, inspected.trim)
         notes += observed.notes(contents, inspected, self.house.check.ppi)
         rgb = rgb_of(gs, inspected.millimetres()) if inspected.rgb else None
         if rgb and self.house.rgb == "refuse":
@@ -114,7 +115,8 @@ class Intake:
             notes.append(("rgb", "RGB is converted", rgb))
         rendering, page = Rendering(self.house, gs), self.compared(folder, copy, name, inspected, rgb, contents)
         asked = self.opinion.asked(page, rendering.size[1])
-        made, seen = rendering.made(inspected.strips, asked), rendering.seen
+        strips = inspected.strips and not contents.edited
+        made, seen = rendering.made(strips, asked), rendering.seen
         notes += made.notes
         notes += self.opinion.notes(page, asked) + observed.knocked_out(contents, inspected, seen)
         for press in self.house.presses.values():
@@ -128,9 +130,10 @@ class Intake:
 
     def compared(self, folder, came, edited, inspected, rgb, contents):
         """Returns the page for its comparison with a second rendering: of the PDF that came, or of the edited one
-        if a layer prints otherwise than it shows on the screen, because mutool shows the screen's layers.
+        if a layer prints otherwise than it shows on the screen, because mutool shows the screen's layers, or if
+        black was made to overprint.
         """
-        name = edited if contents.print_layers else came
+        name = edited if contents.print_layers or contents.edited else came
         blended = contents.lab or any(kind == "blending" for kind, _ in inspected.notes)
         return Page(folder, name, inspected, rgb, blended, self.house.dpi)
 

@@ -1,7 +1,8 @@
 """Observes a page's contents in a process of its own, and makes notes of what was observed.
 
-intake runs this file under limits, in the page's folder, with the PDF's name and the box in points that prints. The
-process writes its observations to standard output as JSON.
+intake runs this file under limits, in the page's folder, with the PDF's name, the box in points that prints and, if
+black is made to overprint, the name of an edited copy. The process writes its observations to standard output as
+JSON.
 """
 from __future__ import annotations
 
@@ -29,23 +30,30 @@ MOST, MOST_FOUND = 4, 20_000
 # A note: its kind, its text, and its place in millimetres or None.
 Note = tuple[str, str, "tuple[float, ...] | None"]
 FAILED = "unread"
+# The name of the copy in which black overprints.
+EDITED = "black.pdf"
 
 
 @dataclass(frozen=True)
 class Contents:
-    """What was observed, or why nothing could be; whether something is in Lab, and whether a layer shows otherwise in
+    """What was observed, or why nothing could be; the edited copy of the PDF, if black was made to overprint in it;
+    whether something is in Lab, and whether a layer shows otherwise in
     print than on the screen.
     """
 
     found: tuple[Observation, ...] = ()
     why: str = ""
+    edited: str = ""
     lab: bool = False
     print_layers: bool = False
 
 
-def observe(limits: Limits, folder: str, pdf: str, box: Sequence[float]) -> Contents:
-    """Returns what is observed on the first page of a PDF in the folder. `box` is the part in points that prints."""
+def observe(limits: Limits, folder: str, pdf: str, box: Sequence[float], black: bool) -> Contents:
+    """Returns what is observed on the first page of a PDF in the folder. `box` is the part in points that prints,
+    and `black` is whether black is made to overprint before.
+    """
     words = [sys.executable, "-B", os.path.abspath(__file__), pdf, json.dumps([float(side) for side in box])]
+    words += [EDITED] if black else []
     try:
         status, out, note = limits.run(words, folder, "the walk through its contents")
     except Passed as error:
@@ -55,7 +63,7 @@ def observe(limits: Limits, folder: str, pdf: str, box: Sequence[float]) -> Cont
         return Contents(why=lines[-1][:200] if lines else f"exit status {status}")
     answer = json.loads(out)
     found = tuple(Observation(kind, tuple(place), tuple(values)) for kind, place, values in answer["found"])
-    return Contents(found, answer["why"], answer["lab"], answer["print_layers"])
+    return Contents(found, answer["why"], answer["edited"], answer["lab"], answer["print_layers"])
 
 
 def placed(box: Box, inspected: Inspected) -> tuple[float, ...]:
@@ -129,12 +137,17 @@ def prints_otherwise(pdf: Any) -> bool:
 def main() -> int:
     import pikepdf
 
+    from pressroom.intake.black import overprint
     from pressroom.intake.walk import TooLong, Walk
 
     name, sides = sys.argv[1], json.loads(sys.argv[2])
-    answer: dict[str, Any] = {"why": ""}
+    answer: dict[str, Any] = {"why": "", "edited": ""}
+    box = sides[0], sides[1], sides[2], sides[3]
     with pikepdf.open(name) as pdf:
-        walk = Walk(pdf.pages[0], (sides[0], sides[1], sides[2], sides[3]))
+        if sys.argv[3:] and overprint(pdf, box):
+            answer["edited"] = sys.argv[3]
+            pdf.save(sys.argv[3])
+        walk = Walk(pdf.pages[0], box)
         try:
             walk.begin()
         except TooLong:

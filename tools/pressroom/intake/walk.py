@@ -100,15 +100,19 @@ class Content:
         import pikepdf
 
         for operands, operator in pikepdf.parse_content_stream(stream):
-            self.walk.count += 1
-            if self.walk.count > MOST:
-                raise TooLong
-            call = OPERATORS.get(str(operator))
-            if call:
-                try:
-                    call(self, list(operands))
-                except (ArithmeticError, AttributeError, LookupError, TypeError, ValueError):
-                    continue
+            self.step(str(operator), list(operands))
+
+    def step(self, operator: str, operands: list[Any]) -> None:
+        """Follows one operator."""
+        self.walk.count += 1
+        if self.walk.count > MOST:
+            raise TooLong
+        call = OPERATORS.get(operator)
+        if call:
+            try:
+                call(self, operands)
+            except (ArithmeticError, AttributeError, LookupError, TypeError, ValueError):
+                pass
 
     def resource(self, kind: str, name: Any) -> Any:
         """Returns a resource, or None."""
@@ -383,7 +387,7 @@ OPERATORS: dict[str, Call] = {
     "f": painting(True, False), "F": painting(True, False), "f*": painting(True, False),
     "S": painting(False, True), "s": painting(False, True), "B": painting(True, True), "B*": painting(True, True),
     "b": painting(True, True), "b*": painting(True, True),
-    "Do": Content.paint_object, "sh": Content.paint_shading, "INLINE IMAGE": Content.paint_inline,
+    "Do": lambda content, values: content.paint_object(values), "sh": Content.paint_shading, "INLINE IMAGE": Content.paint_inline,
     "BT": Content.begin_text, "Tf": Content.use_font, "Td": Content.move, "TD": Content.move_leading,
     "T*": Content.next_line, "Tm": Content.place, "Tj": Content.show, "TJ": Content.show_array,
     "'": Content.show_line, '"': Content.show_spaced, "Tc": setting("spacing"), "Tw": setting("words"),
