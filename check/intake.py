@@ -21,6 +21,7 @@ import time
 sys.dont_write_bytecode = True
 from intake_corpus import see_corpus
 from intake_pages import HOUSE, Pages, fields, intake, missing_program, plates_of
+from intake_second import see_second
 from intake_strips import see_strips
 from newspaper import NEWSPAPER, TOP, Results, missing
 
@@ -577,6 +578,7 @@ def main():
             (see_changes, (results, program, folder)),
             (see_hostile, (results, folder)),
             (see_corpus, (results, program, folder)),
+            (see_second, (results, folder)),
             (see_newspaper, (results, program, folder)),
         ):
             begun, before = time.monotonic(), results.passed

@@ -8,7 +8,6 @@ from __future__ import annotations
 import os
 import struct
 import sys
-import zlib
 from collections.abc import Callable
 from typing import Any
 
@@ -19,7 +18,9 @@ from pdf import Pdf
 
 WIDTH, HEIGHT = 172.8, 230.4
 FONT = "/usr/share/fonts/opentype/urw-base35/NimbusMonoPS-Bold.otf"
-WORDS = "The council voted late on Tuesday to close the harbour road while the old sea wall is made safe".split()
+WORDS = (
+    "The council voted late on Tuesday to close the harbour road while the old sea wall is made safe".split()
+)
 TRANSFORM = "<< /FunctionType 2 /Domain [0 1] /C0 [0 0 0 0] /C1 [{}] /N {} >>"
 SPOT = "[/Separation /{} /DeviceCMYK {}]"
 
@@ -98,16 +99,24 @@ class Sheet:
     def write(self, path: str) -> None:
         """Writes the page."""
         pdf, font = self.pdf, self.pdf.add("/Subtype /Type1C", outlines())
-        described = f"<< /Type /FontDescriptor /FontName /F /Flags 32 /FontBBox [0 -300 600 900] /ItalicAngle 0 "
-        about = pdf.add(f"{described}/Ascent 900 /Descent -300 /CapHeight 700 /StemV 100 /FontFile3 {font} 0 R >>")
+        described = (
+            f"<< /Type /FontDescriptor /FontName /F /Flags 32 /FontBBox [0 -300 600 900] /ItalicAngle 0 "
+        )
+        about = pdf.add(
+            f"{described}/Ascent 900 /Descent -300 /CapHeight 700 /StemV 100 /FontFile3 {font} 0 R >>"
+        )
         text = pdf.add(
             "<< /Type /Font /Subtype /Type1 /BaseFont /F /FirstChar 32 /LastChar 126 /Encoding /WinAnsiEncoding "
             f"/Widths [{'600 ' * 95}] /FontDescriptor {about} 0 R >>"
         )
         resources = f"/Font << /F {text} 0 R >> /XObject << {self.images}>> /ExtGState << {self.states}>> "
-        resources += f"/ColorSpace << {self.spaces}>> /Shading << {self.shadings}>> /Pattern << {self.patterns}>>"
+        resources += (
+            f"/ColorSpace << {self.spaces}>> /Shading << {self.shadings}>> /Pattern << {self.patterns}>>"
+        )
         stream, box = pdf.add("", bytes(self.content)), f"[0 0 {WIDTH} {HEIGHT}]"
-        page = f"<< /Type /Page /Parent {stream + 2} 0 R /MediaBox {box} /TrimBox {box} /Contents {stream} 0 R "
+        page = (
+            f"<< /Type /Page /Parent {stream + 2} 0 R /MediaBox {box} /TrimBox {box} /Contents {stream} 0 R "
+        )
         page = pdf.add(f"{page}/Resources << {resources} >> {self.keys} >>")
         pages = pdf.add(f"<< /Type /Pages /Kids [{page} 0 R] /Count 1 >>")
         pdf.write(path, pdf.add(f"<< /Type /Catalog /Pages {pages} 0 R >>"))
@@ -200,7 +209,9 @@ def shadow(sheet: Sheet) -> None:
     sheet.picture("C", ALL, 260, seed=9)
     mask = sheet.pdf.add(
         "/Type /XObject /Subtype /Image /Width 16 /Height 16 /ColorSpace /DeviceGray /BitsPerComponent 8",
-        bytes(round(255 * (1 - abs(x - 7.5) / 8) * (1 - abs(y - 7.5) / 8)) for y in range(16) for x in range(16)),
+        bytes(
+            round(255 * (1 - abs(x - 7.5) / 8) * (1 - abs(y - 7.5) / 8)) for y in range(16) for x in range(16)
+        ),
     )
     sheet.paint("q").state("/BM /Multiply /ca 0.75")
     head = f"/ColorSpace /DeviceCMYK /BitsPerComponent 8 /SMask {mask} 0 R"
@@ -227,8 +238,12 @@ def grey_mask(sheet: Sheet) -> None:
 
 def rgb_group(sheet: Sheet) -> None:
     sheet.keys = "/Group << /S /Transparency /CS /DeviceRGB /I true >>"
-    sheet.picture("R", UPPER, 300, seed=13).paint("0.1 0.4 0.2 0 k 8 60 70 40 re f 0.2 0.4 0.8 rg 90 60 60 40 re f")
-    sheet.state("/ca 0.6").paint("0.9 0.2 0.1 rg 40 40 90 90 re f").state("/ca 1").text(9, 12, 45, 3, "0 0 0 rg")
+    sheet.picture("R", UPPER, 300, seed=13).paint(
+        "0.1 0.4 0.2 0 k 8 60 70 40 re f 0.2 0.4 0.8 rg 90 60 60 40 re f"
+    )
+    sheet.state("/ca 0.6").paint("0.9 0.2 0.1 rg 40 40 90 90 re f").state("/ca 1").text(
+        9, 12, 45, 3, "0 0 0 rg"
+    )
 
 
 def gradients(sheet: Sheet) -> None:
@@ -264,7 +279,9 @@ def stencils(sheet: Sheet) -> None:
             bits = bits << 1 | (dot < 4 + 14 * x / 800)
         rows += bits.to_bytes(100, "big")
     sheet.paint("0 0 0 1 k")
-    sheet.image(bytes(rows), 800, 600, "/ImageMask true /BitsPerComponent 1 /Decode [1 0]", (8, 100, 156, 117))
+    sheet.image(
+        bytes(rows), 800, 600, "/ImageMask true /BitsPerComponent 1 /Decode [1 0]", (8, 100, 156, 117)
+    )
     art = bytes((0xF0, 0x0F) * 32)
     sheet.paint("0.9 0.3 0 0 k").image(art, 16, 32, "/ImageMask true /BitsPerComponent 1", (8, 10, 70, 70))
     sheet.image(art, 16, 32, "/ColorSpace /DeviceGray /BitsPerComponent 1", (90, 10, 70, 70))
@@ -292,7 +309,9 @@ def hatching(sheet: Sheet) -> None:
 
 def clipped(sheet: Sheet) -> None:
     """A picture seen through letters and an outline."""
-    sheet.paint("q BT /F 60 Tf 7 Tr 1 0 0 1 8 150 Tm (Wall) Tj ET").picture("C", UPPER, 260, seed=21).paint("Q")
+    sheet.paint("q BT /F 60 Tf 7 Tr 1 0 0 1 8 150 Tm (Wall) Tj ET").picture("C", UPPER, 260, seed=21).paint(
+        "Q"
+    )
     sheet.paint("q 86 20 m 160 90 l 20 110 l h W n").picture("R", LOWER, 260, seed=22).paint("Q")
     sheet.paint("BT 1 Tr 0.5 w 0 1 0 0 K /F 40 Tf 1 0 0 1 8 115 Tm (Late) Tj ET")
 
@@ -307,7 +326,9 @@ def colour_text(sheet: Sheet) -> None:
 
 
 def rgb_page(sheet: Sheet) -> None:
-    sheet.picture("R", UPPER, 350, seed=27).text(9, 12, 105, 4, "0 0 0 rg").text(11, 12, 60, 2, "0.8 0.1 0.1 rg")
+    sheet.picture("R", UPPER, 350, seed=27).text(9, 12, 105, 4, "0 0 0 rg").text(
+        11, 12, 60, 2, "0.8 0.1 0.1 rg"
+    )
     sheet.paint("0.95 0.93 0.85 rg 8 4 156 26 re f").text(8, 12, 20, 2, "0.35 0.35 0.35 rg")
 
 

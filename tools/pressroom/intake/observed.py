@@ -144,11 +144,11 @@ def main() -> int:
     answer: dict[str, Any] = {"why": "", "edited": ""}
     box = sides[0], sides[1], sides[2], sides[3]
     with pikepdf.open(name) as pdf:
-        if sys.argv[3:] and overprint(pdf, box):
-            answer["edited"] = sys.argv[3]
-            pdf.save(sys.argv[3])
         walk = Walk(pdf.pages[0], box)
         try:
+            if sys.argv[3:] and overprint(pdf, box):
+                answer["edited"] = sys.argv[3]
+                pdf.save(sys.argv[3])
             walk.begin()
         except TooLong:
             answer["why"] = "it has too many operators"

@@ -126,10 +126,13 @@ def drawn(limits: Limits, folder: str, pdf: str, grid: Grid, spots: str) -> tupl
     path = os.path.join(folder, name)
     if status or not os.path.isfile(path) or not os.path.getsize(path):
         raise Unseen(wrong[0] if wrong else f"it exits with {status}")
-    size = size_of(path)
+    try:
+        size = size_of(path)
+    except struct.error:
+        raise Unseen("its planes are cut off") from None
     if abs(size[0] - grid.width) > ROUNDED or abs(size[1] - grid.height) > ROUNDED:
         raise Unseen(f"it has {size[0]} x {size[1]} pixels, and not {grid.width} x {grid.height}")
     try:
         return Planes(path, size), wrong
-    except Refused as error:
-        raise Unseen(str(error)) from None
+    except (Refused, struct.error, LookupError) as error:
+        raise Unseen(f"its planes can't be read: {error}") from None
