@@ -100,7 +100,7 @@ class Sheet:
         """Writes the page."""
         pdf, font = self.pdf, self.pdf.add("/Subtype /Type1C", outlines())
         described = (
-            f"<< /Type /FontDescriptor /FontName /F /Flags 32 /FontBBox [0 -300 600 900] /ItalicAngle 0 "
+            "<< /Type /FontDescriptor /FontName /F /Flags 32 /FontBBox [0 -300 600 900] /ItalicAngle 0 "
         )
         about = pdf.add(
             f"{described}/Ascent 900 /Descent -300 /CapHeight 700 /StemV 100 /FontFile3 {font} 0 R >>"

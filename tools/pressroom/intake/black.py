@@ -24,7 +24,8 @@ DEVICES = {
     ("fill", "/DeviceGray"): ([0], "g"), ("fill", "/DeviceRGB"): ([0, 0, 0], "rg"),
     ("stroke", "/DeviceGray"): ([0], "G"), ("stroke", "/DeviceRGB"): ([0, 0, 0], "RG"),
 }  # fmt: skip
-Instruction = tuple[list[Any], Any]
+# What a form takes from the state in which it is painted, as far as black needs it.
+INHERITED = "fill", "stroke", "fill_space", "stroke_space", "over_fill", "over_stroke", "mode", "shows"
 
 
 def overprint(pdf: pikepdf.Pdf, box: Box) -> bool:
@@ -55,7 +56,7 @@ class Black(Content):
 
     def __init__(self, walk: Edit, resources: Any, state: State, depth: int) -> None:
         super().__init__(walk, resources, state, depth)
-        self.edit, self.out, self.changed = walk, [], False
+        self.edit, self.changed = walk, False
         self.out: list[Any] = []
         self.states: dict[str, dict[str, Any]] = {}
         self.forms: dict[str, Any] = {}
@@ -127,12 +128,9 @@ class Black(Content):
         item = self.resource("/XObject", operands[0]) if operands else None
         if item is None or item.get("/Subtype") != "/Form" or self.depth >= DEEPEST:
             return None
-        state = self.state
-        inner = State(IDENTITY, self.edit.box).changed(
-            fill=state.fill, stroke=state.stroke, fill_space=state.fill_space, stroke_space=state.stroke_space,
-            over_fill=state.over_fill, over_stroke=state.over_stroke, mode=state.mode, shows=state.shows,
-        )  # fmt: skip
-        key = item.objgen, inner
+        inherited = {name: getattr(self.state, name) for name in INHERITED}
+        inner = State(IDENTITY, self.edit.box).changed(**inherited)
+        key = item.objgen, *inherited.values()
         if key not in self.edit.forms:
             # A form within itself ends here.
             self.edit.forms[key] = None

@@ -64,15 +64,15 @@ def scale_of(matrix: Matrix) -> float:
 
 @dataclass(frozen=True)
 class Font:
-    """A font: the advance of each code in thousandths of its size, that of all other codes, bytes of a code."""
+    """A font: the advance of each code in thousandths of its size, that of all other codes, and the bytes of a code."""
 
     widths: dict[int, float] = field(default_factory=dict)
     other: float = 500.0
-    bytes: int = 1
+    each: int = 1
 
     def advance(self, text: bytes) -> float:
         """Returns the advance of a text, for a size of 1."""
-        step = self.bytes
+        step = self.each
         codes = (int.from_bytes(text[at : at + step], "big") for at in range(0, len(text), step))
         return sum(self.widths.get(code, self.other) for code in codes) / 1000
 
@@ -104,7 +104,7 @@ class State:
 
     def changed(self, **values: object) -> State:
         """Returns this state with other values."""
-        return replace(self, **values)  # type: ignore[arg-type]
+        return replace(self, **values)
 
 
 def ink_of(space: str, values: list[float]) -> str:
@@ -114,9 +114,9 @@ def ink_of(space: str, values: list[float]) -> str:
             return BLACK
         return COLOUR if any(values) else BARE
     if space == "/DeviceGray" and len(values) == 1:
-        return {0: BLACK, 1: BARE}.get(values[0], COLOUR)
+        return BLACK if values[0] == 0 else BARE if values[0] == 1 else COLOUR
     if space == "/DeviceRGB" and len(values) == 3:
         return BLACK if not any(values) else BARE if values == [1, 1, 1] else COLOUR
     if space == "/Black" and len(values) == 1:
-        return {1: BLACK, 0: BARE}.get(values[0], COLOUR)
+        return BLACK if values[0] == 1 else BARE if values[0] == 0 else COLOUR
     return UNKNOWN

@@ -138,15 +138,15 @@ def windows(plane: Array, grid: Grid) -> tuple[Array, Array]:
     part = plane[: rows * BLOCK, : columns * BLOCK]
     sums[2 : 2 + part.shape[0], 2 : 2 + part.shape[1]] = part
     np.cumsum(np.cumsum(sums, axis=0, out=sums), axis=1, out=sums)
-    least = most = None
+    found = []
     for down in range(3):
         bands = sums[down + SIDE :: BLOCK][: rows - 1] - sums[down::BLOCK][: rows - 1]
         for right in range(3):
             total = (
                 bands[:, right + SIDE :: BLOCK][:, : columns - 1] - bands[:, right::BLOCK][:, : columns - 1]
             )
-            least = total if least is None else np.minimum(least, total)
-            most = total if most is None else np.maximum(most, total)
+            found.append(total)
+    least, most = np.minimum.reduce(found), np.maximum.reduce(found)
     return least / (255 * SIDE * SIDE), most / (255 * SIDE * SIDE)
 
 

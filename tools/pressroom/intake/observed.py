@@ -62,7 +62,10 @@ def observe(limits: Limits, folder: str, pdf: str, box: Sequence[float], black: 
         lines = note.decode("utf-8", "replace").strip().splitlines()
         return Contents(why=lines[-1][:200] if lines else f"exit status {status}")
     answer = json.loads(out)
-    found = tuple(Observation(kind, tuple(place), tuple(values)) for kind, place, values in answer["found"])
+    found = tuple(
+        Observation(kind, (place[0], place[1], place[2], place[3]), tuple(values))
+        for kind, place, values in answer["found"]
+    )
     return Contents(found, answer["why"], answer["edited"], answer["lab"], answer["print_layers"])
 
 

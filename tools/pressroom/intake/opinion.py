@@ -59,7 +59,8 @@ class Opinion:
         if not self.used:
             return ""
         _, out, note = self.limits.run([PROGRAM, "-v"], folder)
-        return (out + note).decode("utf-8", "replace").strip()
+        said: bytes = out + note
+        return said.decode("utf-8", "replace").strip()
 
     def asked(self, page: Page, height: int) -> Asked | None:
         """Returns what means of the page's inks are needed. `height` is the page's in pixels."""

@@ -86,8 +86,7 @@ class Shrunk:
         self.counts = np.multiply.outer(*counts)
 
     def add(self, top: int, planes: Sequence[NDArray[np.uint8] | None]) -> None:
-        """Adds a strip whose first row is `top`: the four inks and the house's spot, None for a plane that is bare.
-        """
+        """Adds a strip whose first row is `top`: the four inks and the house's spot, None for a plane that is bare."""
         import numpy as np
 
         rows = next((len(plane) for plane in planes if plane is not None), 0)
@@ -117,7 +116,8 @@ class Shrunk:
         import numpy as np
 
         means = self.sums / (255 * np.maximum(self.counts, 1))
-        return np.concatenate([means, self.counts[np.newaxis]]).astype(np.float32)
+        found: NDArray[np.float32] = np.concatenate([means, self.counts[np.newaxis]]).astype(np.float32)
+        return found
 
 
 def together(ink: NDArray[np.uint8] | None, black: NDArray[np.uint8] | None) -> NDArray[np.uint8] | None:
@@ -126,4 +126,5 @@ def together(ink: NDArray[np.uint8] | None, black: NDArray[np.uint8] | None) -> 
 
     if ink is None or black is None:
         return black if ink is None else ink
-    return ink + np.minimum(black, 255 - ink)
+    found: NDArray[np.uint8] = ink + np.minimum(black, 255 - ink)
+    return found

@@ -288,10 +288,10 @@ class Content:
         for part in parts:
             if isinstance(part, pikepdf.String):
                 text = bytes(part)
-                count = len(text) // state.font.bytes
+                count = len(text) // state.font.each
                 own = state.font.advance(text) * state.size + count * state.spacing
                 advance += (
-                    own + (text.count(b" ") if state.font.bytes == 1 else 0) * state.words
+                    own + (text.count(b" ") if state.font.each == 1 else 0) * state.words
                 ) * state.wide
             else:
                 advance -= float(part) / 1000 * state.size * state.wide
@@ -349,7 +349,7 @@ class Fonts:
 def font_of(font: Any) -> Font:
     """Returns the advances of a font. Those of composite fonts count as half its size."""
     if font.get("/Subtype") == "/Type0":
-        return Font(bytes=2)
+        return Font(each=2)
     if "/Widths" not in font:
         return Font()
     factor = 1000 * abs(float(font["/FontMatrix"][0])) if "/FontMatrix" in font else 1.0
