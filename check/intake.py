@@ -22,8 +22,10 @@ sys.dont_write_bytecode = True
 from intake_corpus import see_corpus
 from intake_ink import see_ink
 from intake_inks import see_bands, see_inks
-from intake_pages import HOUSE, Pages, fields, intake, missing_program, plates_of
+from intake_notes import see_notes
+from intake_pages import HOUSE, Pages, events, fields, intake, missing_program, plates_of
 from intake_refused import see_words
+from intake_second import see_second
 from intake_strips import see_strips
 from newspaper import NEWSPAPER, TOP, missing
 from trial import Count
@@ -32,11 +34,6 @@ sys.path.insert(0, NEWSPAPER)
 from pdf import Pdf
 
 DPI = 300
-
-
-def events(found, event):
-    """Returns the events of this name as sorted pairs of file and kind."""
-    return sorted((item["file"], item["kind"]) for item in found if item["event"] == event)
 
 
 def box(x, y, width, height):
@@ -560,6 +557,8 @@ def main():
             (see_changes, (results, program, folder)),
             (see_hostile, (results, folder)),
             (see_corpus, (results, program, folder)),
+            (see_second, (results, folder)),
+            (see_notes, (results, program, folder)),
             (see_newspaper, (results, program, folder)),
         ):
             begun, before = time.monotonic(), results.passed

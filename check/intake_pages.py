@@ -40,6 +40,11 @@ def fields(path):
         return json.load(file)
 
 
+def events(found, event):
+    """Returns the events of this name as sorted pairs of file and kind."""
+    return sorted((item["file"], item["kind"]) for item in found if item["event"] == event)
+
+
 class Pages:
     """A folder of pages, and the folders of its WORK and its plates."""
 

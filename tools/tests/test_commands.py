@@ -49,7 +49,7 @@ def test_unknown_command(capsys: pytest.CaptureFixture[str]) -> None:
     listed = re.findall(r"^  ([a-z]+)  ", capsys.readouterr().out, re.MULTILINE)
     assert listed == list(front.COMMANDS)
     modules = {path.stem for path in (TOOLS / "pressroom" / "commands").glob("*.py")} - {"__init__"}
-    assert modules == set(front.COMMANDS)
+    assert modules == set(front.COMMANDS) | front.INTERNAL
 
 
 def test_folders_of_the_file(

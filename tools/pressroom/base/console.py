@@ -19,6 +19,7 @@ BARE = {"done", "refused", "tile", "part"}
 # The Debian package of each program.
 PACKAGES = {
     "gs": "ghostscript",
+    "mutool": "mupdf-tools",
     "qpdf": "qpdf",
     "pdftohtml": "poppler-utils",
     "pdftoppm": "poppler-utils",

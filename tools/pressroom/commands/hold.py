@@ -4,7 +4,7 @@ The answer says which sites had the page already, for which the hold is in time,
 
 status: 0 it is held; 1 there is no such edition or page; 2 the arguments are wrong; 3 the service is down
 
-example: pressroom hold /var/spool/pressroom MON A07 --word "waits for the match"
+example: pressroom hold /var/spool/pressroom MON A07 --word "match runs late"
 """
 
 from pressroom.base.command_line import Parser

@@ -5,7 +5,7 @@ They come in a folder VERSION.rN with a READY that names the plates and the reas
 status: 0 they are under way; 1 the site doesn't have them yet, or there is no such site; 2 the arguments are wrong;
 3 the service is down
 
-example: pressroom resend /var/spool/pressroom MON OSLO A-002 K --reason scratched
+example: pressroom resend /var/spool/pressroom MON OSLO A-002 K --reason torn
 """
 
 from pressroom.base.command_line import Parser

@@ -103,13 +103,13 @@ def read_colour(value: object) -> tuple[int, int, int]:
 
 
 def read_pattern(value: object) -> str:
-    """Reads a pattern of file names: {section}, {page}, * for anything, and text."""
-    if (
-        not isinstance(value, str)
-        or value.count("{section}") != 1
-        or value.count("{page}") != 1
-        or re.search(r"[{}/\x00-\x1f]", value.replace("{section}", "").replace("{page}", ""))
-    ):
+    """Reads a pattern of file names: {section}, {page}, at most one {version}, * for anything, and text."""
+    if not isinstance(value, str) or value.count("{version}") > 1:
+        raise wrong(value, PATTERN.words)
+    rest = value.replace("{version}", "")
+    if any(rest.count(part) != 1 for part in ("{section}", "{page}")):
+        raise wrong(value, PATTERN.words)
+    if re.search(r"[{}/\x00-\x1f]", rest.replace("{section}", "").replace("{page}", "")):
         raise wrong(value, PATTERN.words)
     return value
 

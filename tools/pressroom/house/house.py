@@ -24,6 +24,7 @@ from pressroom.house.records import (
     MOST_SITES,
     OTHERS,
     ZONE,
+    Check,
     Colour,
     House,
     InkKeys,
@@ -105,15 +106,17 @@ class Reading:
         sheet = keys.fill(Sheet)
         sections = self.sections()
         colour = self.colour()
+        checked = keys.inside("check").whole(Check)
         spot = self.spot() if "spot" in keys.table else None
         presses = self.presses(sheet["dpi"])
         sites = self.sites(presses)
         house = None
-        if not self.faults.found:
+        if not self.faults.found and checked is not None:
             house = self.with_blanks(
                 House(
                     **sheet,
                     **colour,
+                    check=checked,
                     path=self.path,
                     sections=sections,
                     spot=spot,

@@ -20,6 +20,7 @@ from pressroom.house.forms import (
     PATTERN,
     PERCENT,
     SEPARATION,
+    TRUTH,
     listed,
     matching,
     number,
@@ -135,6 +136,21 @@ class Colour:
         None,
     )
     spots: str = key(one_of("refuse", "mix"), "separations other than the house's", "refuse")
+    overprint_black: bool = key(TRUTH, "whether black text and strokes overprint", False)
+
+
+@dataclass(frozen=True, kw_only=True)
+class Check:
+    """What intake tests of a page besides what it refuses, `[check]`."""
+
+    second: str = key(
+        one_of("note", "fault", "off"), "what becomes of a difference from a second rendering", "note"
+    )
+    ppi: float = key(
+        number(0, 5000, "a resolution of 0 to 5000 pixels an inch"),
+        "the least pixels an inch of a picture as it is placed; 0 for any",
+        0,
+    )
 
 
 @dataclass(frozen=True, kw_only=True)
@@ -153,6 +169,7 @@ class House(Sheet, Colour):
 
     path: str
     sections: dict[str, int]
+    check: Check
     blank: frozenset[Place] = field(default_factory=frozenset)
     spot: Spot | None
     sites: tuple[Site, ...]
@@ -209,6 +226,7 @@ OTHERS = {
 TABLES: dict[str, type] = {
     "": Sheet,
     "colour": Colour,
+    "check": Check,
     "spot": Spot,
     "screens.INK": Screen,
     "marks": Mark,

@@ -2,8 +2,9 @@
 
 intake runs this file as a separate process, under limits, in the page's folder. Its one argument is a JSON
 object: `words`, the arguments of Ghostscript; `file`, those that name the file; `size` in pixels; `dpi`;
-`house`, the name of the house's spot or null; `has_all`, whether the page has the separation All; and
-`version`, the output of `gs --version`, which the library must match. The process writes `seen.npy` and `answer.json`, and exits with 0 if everything was made.
+`house`, the name of the house's spot or null; `has_all`, whether the page has the separation All; `shrunk`, the
+fields of an Asked or null; and `version`, the output of `gs --version`, which the library must match. The process
+writes `seen.npy` and `answer.json`, and exits with 0 if everything was made.
 
 It uses Ghostscript's device `display` with separations in planes (gdevdsp.h). The device asks for one
 rectangle after another, and calls back when each is painted. Its bytes are ink: 0 is bare.
@@ -19,6 +20,7 @@ from ctypes import CFUNCTYPE, POINTER, c_char_p, c_int, c_long, c_size_t, c_uint
 os.environ["OPENBLAS_NUM_THREADS"] = "1"
 sys.path.insert(0, os.path.dirname(os.path.dirname(os.path.dirname(os.path.abspath(__file__)))))
 from pressroom.intake.separations import Separations, Spot
+from pressroom.intake.shrunk import Asked
 from pressroom.tiff.strips import STRIP
 
 # DISPLAY_COLORS_SEPARATION, DISPLAY_DEPTH_8 and DISPLAY_PLANAR; all other bits are 0.
@@ -92,6 +94,7 @@ class Painter:
     def __init__(self, folder, asked):
         self.folder, self.size, self.dpi = folder, tuple(asked["size"]), asked["dpi"]
         self.house, self.has_all = asked["house"], asked["has_all"]
+        self.asked = Asked.read(asked["shrunk"]) if asked["shrunk"] else None
         self.names, self.made, self.memory, self.wrong = {}, None, None, None
         # Rows in a band, rows that are painted, and rows whose strips are written.
         self.rows, self.painted, self.taken = STRIP, 0, 0
@@ -146,7 +149,9 @@ class Painter:
         spots = [self.names[number] for number in sorted(self.names) if number >= 4]
         if len(spots) > 1:
             raise ValueError("the order of spots may differ from that of planes in a file")
-        self.made = Separations(self.folder, self.size, self.dpi, spots, self.house, None, self.has_all)
+        self.made = Separations(
+            self.folder, self.size, self.dpi, spots, self.house, None, self.has_all, self.asked
+        )
         self.memory = np.zeros((PLANES, STRIP + self.rows, self.size[0]), np.uint8)
 
     def take(self):

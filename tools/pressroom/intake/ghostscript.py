@@ -79,31 +79,34 @@ class Ghostscript:
             raise Refused("damaged", f"damaged: {printable(said) or 'Ghostscript had to repair it'}")
         return Planes(path, size)
 
-    def separate(self, dpi, size, house, strips, tables=None, has_all=False):
-        """Makes the page's files. Returns the result of Separations.end and the page at a low resolution.
-        `tables` and `has_all` are those of Separations.
+    def separate(self, dpi, size, house, strips, tables=None, has_all=False, means=None):
+        """Makes the page's files, and means over blocks if they are asked for. Returns the result of
+        Separations.end and the page at a low resolution. `tables` and `has_all` are those of Separations.
 
         With `strips`, the library paints the page strip by strip into memory. That takes less than half the
         time of planes in a file, and makes the same pixels, except on pages so small that `gs` paints them
         without bands. All other pages go through a file. So do pages on which the library fails: then `gs`
         reports what is wrong.
         """
-        painted = self.painted(dpi, size, house, has_all) if strips and size[0] * size[1] > SMALL else None
+        painted = None
+        if strips and size[0] * size[1] > SMALL:
+            painted = self.painted(dpi, size, house, has_all, means)
         if painted:
             return painted
         planes = self.render(dpi, size, "page.psd")
-        made = Separations(self.folder, size, dpi, planes.spots, house, tables, has_all)
+        made = Separations(self.folder, size, dpi, planes.spots, house, tables, has_all, means)
         for number, strip in planes.strips():
             made.add(number, strip)
         os.remove(planes.path)
         return made.end(), made.seen
 
-    def painted(self, dpi, size, house, has_all=False):
+    def painted(self, dpi, size, house, has_all=False, means=None):
         """Returns what `separate` returns, made by the library, or None if the library fails."""
         import numpy as np
 
         asked = {"words": self.words(dpi, size), "file": self.file(), "size": size, "dpi": dpi}
         asked |= {"house": house, "has_all": has_all, "version": self.version}
+        asked |= {"shrunk": means.words() if means else None}
         words = [sys.executable, "-B", os.path.abspath(display.__file__), json.dumps(asked)]
         try:
             status, out, note = self.limits.run(words, self.folder, "gs")

@@ -29,11 +29,13 @@ from pressroom.base.console import Console, Missing, need
 from pressroom.base.limits import Limits, Passed
 from pressroom.house.folders import with_folders
 from pressroom.house.house import HouseFault, read_house
-from pressroom.intake import bands, bitmaps, pages, profiles, state
+from pressroom.intake import bands, bitmaps, observed, pages, profiles, state
 from pressroom.intake.ghostscript import Ghostscript
 from pressroom.intake.layers import Made, Rendering
 from pressroom.intake.mixing import Mixing, mixing_of
+from pressroom.intake.opinion import Opinion, Page
 from pressroom.intake.pdf import Inspected, Refused, inspect
+from pressroom.intake.separations import Spot
 from pressroom.intake.survey import above, rgb_of, thin_white
 from pressroom.plans import plans
 
@@ -62,7 +64,9 @@ class Intake:
         profiles.write_profiles(self.profiles.name, house.profile)
         _, version, _ = limits.run(["gs", "--version"], self.profiles.name)
         self.version = version.decode().strip()
-        self.settings = state.settings(house, version.decode())
+        press = os.path.join(self.profiles.name, "press.icc")
+        self.opinion = Opinion(house.check.second, press, is_house_of(house), limits)
+        self.settings = state.settings(house, version.decode() + self.opinion.version(self.profiles.name))
 
     def outcome(self, source):
         """Makes the page of a file, unless it was made before."""
@@ -105,9 +109,12 @@ class Intake:
         for profile in os.listdir(self.profiles.name):
             shutil.copyfile(os.path.join(self.profiles.name, profile), os.path.join(folder, profile))
         name, inspected = inspect(self.limits, copy, folder)
-        self.see_size(inspected.millimetres())
+        self.see_size(inspected)
+        contents = observed.observe(self.limits, folder, name, inspected.trim, self.house.overprint_black)
+        name = contents.edited or name
         gs = Ghostscript(self.version, self.limits, name, inspected.box, folder)
         notes = [(kind, text, None) for kind, text in inspected.notes]
+        notes += observed.notes(contents, inspected, self.house.check.ppi)
         mixing = mixing_of(self.house, self.limits, inspected, gs)
         gs = dataclasses.replace(gs, pdf=mixing.pdf, planes=mixing.planes)
         lab = inspected.lab or "lab" in mixing.alternates
@@ -121,9 +128,13 @@ class Intake:
         if rgb:
             notes.append(("rgb", "RGB is converted", rgb))
         rendering = Rendering(self.house, gs, mixing)
+        page = self.compared(folder, copy, name, inspected, rgb, contents)
+        asked = self.opinion.asked(page, rendering.size[1])
         planes = len(inspected.spots - {"All"} if mixing.planes is None else mixing.planes)
-        made, seen = rendering.made(inspected.may_be_painted(planes)), rendering.seen
+        strips = inspected.may_be_painted(planes) and not contents.edited
+        made, seen = rendering.made(strips, asked), rendering.seen
         notes += made.notes
+        notes += self.opinion.notes(page, asked) + observed.knocked_out(contents, inspected, seen)
         for press in self.house.presses.values():
             heavy = above(seen, press.limit)
             if heavy:
@@ -143,17 +154,27 @@ class Intake:
         places = (rgb_of(call, inspected.millimetres(), spot) for call in calls)
         return next((place for place in places if place), None)
 
-    def see_size(self, size):
+    def compared(self, folder, came, edited, inspected, rgb, contents):
+        """Returns the page for its comparison with a second rendering: of the PDF that came, or of the edited one
+        if a layer prints otherwise than it shows on the screen, because mutool shows the screen's layers, or if
+        black was made to overprint.
+        """
+        name = edited if contents.print_layers or contents.edited else came
+        blended = contents.lab or any(kind == "blending" for kind, _ in inspected.notes)
+        return Page(folder, name, inspected, rgb, blended, self.house.dpi)
+
+    def see_size(self, inspected):
         """Refuses a page whose trim differs from the house's by more than the tolerance."""
-        wanted, tolerance = self.house.trim, self.house.tolerance
+        size, wanted, tolerance = inspected.millimetres(), self.house.trim, self.house.tolerance
         if any(abs(side - right) > tolerance for side, right in zip(size, wanted)):
             over = ", ".join(
                 f"{abs(side - right):.1f} mm too {more if side > right else less}"
                 for side, right, more, less in zip(size, wanted, ("wide", "high"), ("narrow", "low"))
                 if abs(side - right) > tolerance
             )
-            text = f"trim {size[0]:.1f} x {size[1]:.1f} mm, not {wanted[0]:g} x {wanted[1]:g}: {over}"
-            raise Refused("size", text)
+            text = f"{size[0]:.1f} x {size[1]:.1f} mm, not {wanted[0]:g} x {wanted[1]:g}: {over}"
+            boxless = any(kind == "trim" for kind, _ in inspected.notes)
+            raise Refused("size", ("no trim box, and the whole page is " if boxless else "trim ") + text)
 
     def stored(self, place, key, made, folder):
         """Moves a page's files into WORK under unique names. Returns the page in the plan's form."""
@@ -166,11 +187,16 @@ class Intake:
         return {"inks": made.inks, "layers": layers}
 
 
+def is_house_of(house):
+    """Returns a function that returns whether a name, as bytes, is that of the house's spot."""
+    return lambda name: bool(house.spot) and Spot(name, 0, ()).is_named(house.spot.separation)
+
+
 class Told:
-    """Reports outcomes, and counts them."""
+    """Reports outcomes, and counts them. It keeps the notes, because later steps pass them on."""
 
     def __init__(self, console):
-        self.console, self.made, self.kept = console, 0, 0
+        self.console, self.made, self.kept, self.notes = console, 0, 0, []
 
     def fault(self, name, place, kind, text, box=None):
         self.problem("fault", name, place, kind, text, box)
@@ -184,7 +210,15 @@ class Told:
             left, top, width, height = box
             fields["at"] = list(box)
             text += f", {width:g} x {height:g} mm at {left:g}, {top:g}"
-        self.console.tell(event, f"{name}: {text}", **fields)
+        if event == "note":
+            self.note(f"{name}: {text}", **fields)
+        else:
+            self.console.tell(event, f"{name}: {text}", **fields)
+
+    def note(self, text, **fields):
+        """Reports a note."""
+        self.notes.append({"text": text, **fields})
+        self.console.tell("note", text, **fields)
 
     def outcome(self, outcome):
         name, place = outcome.source.name, outcome.source.place
@@ -207,7 +241,11 @@ def see_places(house, found, strays, told):
     for name in strays:
         told.problem("note", name, None, "stray", "not a page of this edition; not used", None)
     single = {}
-    for place, sources in found.items():
+    for place, every in found.items():
+        sources, older = pages.newest(every)
+        for source in older:
+            text = f"not used: {sources[0].name} has a higher version"
+            told.problem("note", source.name, place, "version", text, None)
         if place in house.blank:
             told.fault(sources[0].name, place, "blank", f"{place} is listed as blank")
         elif len(sources) > 1:
@@ -256,7 +294,7 @@ def positive(kind, words):
     return read
 
 
-def write_plans(house, work, ready, console):
+def write_plans(house, work, ready, told):
     """Writes the plan of each press. Returns the names of the plans."""
     names = []
     for press in house.presses.values():
@@ -270,10 +308,10 @@ def write_plans(house, work, ready, console):
             words += "split it with pressroom parts" if most <= plans.MOST_BYTES else (
                 f"pressroom parts can't split it, because section {section} for {site} alone has {most}"
             )
-            console.tell("note", words, file=name, kind="bytes")
+            told.note(words, file=name, kind="bytes")
         changed = plans.write(os.path.join(work.path, name), plan)
         said = "written" if changed else "unchanged"
-        console.tell("plan", f"{name}: {said}", file=name, changed=changed, bytes=total)
+        told.console.tell("plan", f"{name}: {said}", file=name, changed=changed, bytes=total)
         names.append(name)
     return names
 
@@ -294,6 +332,8 @@ def main():
         need(*PROGRAMS)
         see_libraries()
         house = read_house(words.house)
+        if house.check.second == "fault":
+            need("mutool")
         found, strays = pages.find(house, words.folder)
         work = state.Work(words.work)
     except HouseFault as error:
@@ -315,6 +355,9 @@ def run(words, console, house, found, strays, work):
     single = see_places(house, found, strays, told)
     order = sorted(single, key=str)
     intake = Intake(house, work, Limits(words.seconds, words.memory, words.output), words.wait)
+    if intake.opinion.missing:
+        text = "mutool is not installed, so no page is compared with what it shows: apt-get install mupdf-tools"
+        told.note(text, kind="mutool")
     ready = {}
     with ThreadPoolExecutor(words.jobs) as pool:
         outcomes = pool.map(intake.outcome, [single[place] for place in order])
@@ -325,7 +368,8 @@ def run(words, console, house, found, strays, work):
                 work.keep(outcome.source.place, outcome.key, outcome.page, outcome.notes)
     work.save(found)
     faults = console.counts.get("fault", 0)
-    names = write_plans(house, work, ready, console) if not faults or words.partial else []
+    names = write_plans(house, work, ready, told) if not faults or words.partial else []
+    work.note(told.notes)
     work.clean()
     notes = console.counts.get("note", 0)
     said = f"plans {', '.join(names)}" if names else "no plan is written"

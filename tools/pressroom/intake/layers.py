@@ -67,12 +67,14 @@ class Rendering:
         self.house, self.gs, self.mixing = house, gs, mixing
         self.size, self.notes, self.seen = house.page_pixels(), [], None
 
-    def made(self, strips):
-        """Makes the page's layers. `strips` is whether the page may be painted in strips."""
+    def made(self, strips, asked=None):
+        """Makes the page's layers. `strips` is whether the page may be painted in strips, `asked` what means of
+        its inks are needed.
+        """
         house = self.house.spot.separation if self.house.spot else None
         mixing, tints = self.mixing, []
         page, self.seen = self.gs.separate(
-            self.house.dpi, self.size, house, strips, mixing.tables, mixing.has_all
+            self.house.dpi, self.size, house, strips, mixing.tables, mixing.has_all, asked
         )
         for spot in page["spots"]:
             if spot["house"]:

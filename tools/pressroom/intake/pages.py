@@ -13,12 +13,15 @@ QUIET = 2.0
 
 @dataclass(frozen=True)
 class PageFile:
-    """A page's file: its place, its path, its name relative to the folder, and its kind, `pdf` or `tiff`."""
+    """A page's file: its place, its path, its name relative to the folder, its kind, `pdf` or `tiff`, and the
+    version in its name, 0 if the house's pattern has none.
+    """
 
     place: Place
     path: str
     name: str
     kind: str
+    version: int = 0
 
 
 class Names:
@@ -34,16 +37,17 @@ class Names:
     def form(self, section):
         """Returns the pattern as a regular expression for one section."""
         signs = {"{section}": re.escape(section), "{page}": "0*(?P<page>[1-9][0-9]{0,2})", "*": ".*"}
-        parts = re.split(r"(\{section\}|\{page\}|\*)", self.house.names)
+        signs["{version}"] = "(?P<version>[0-9]{1,9})"
+        parts = re.split(r"(\{section\}|\{page\}|\{version\}|\*)", self.house.names)
         return "".join(signs.get(part, re.escape(part)) for part in parts)
 
-    def place(self, stem, zone):
-        """Returns the place of a file name without its ending, or None."""
+    def read(self, stem, zone):
+        """Returns the place and the version of a file name without its ending, or None and 0."""
         for section, form in self.forms:
             found = form.fullmatch(stem)
             if found and int(found["page"]) <= self.house.sections[section]:
-                return Place(zone, section, int(found["page"]))
-        return None
+                return Place(zone, section, int(found["page"])), int(found.groupdict().get("version") or 0)
+        return None, 0
 
 
 def listed(folder):
@@ -57,11 +61,12 @@ def find(house, folder):
 
     def see(path, name, zone):
         stem, ending = os.path.splitext(os.path.basename(name))
-        place = names.place(stem, zone) if ending.lower() in KINDS and os.path.isfile(path) else None
+        kind = KINDS.get(ending.lower()) if os.path.isfile(path) else None
+        place, version = names.read(stem, zone) if kind else (None, 0)
         if place is None:
             strays.append(name)
         else:
-            found.setdefault(place, []).append(PageFile(place, path, name, KINDS[ending.lower()]))
+            found.setdefault(place, []).append(PageFile(place, path, name, kind, version))
 
     for name in listed(folder):
         path = os.path.join(folder, name)
@@ -71,6 +76,15 @@ def find(house, folder):
         else:
             see(path, name, None)
     return found, strays
+
+
+def newest(sources):
+    """Returns the files of a place that have the highest version, and the others."""
+    highest = max(source.version for source in sources)
+    return (
+        [source for source in sources if source.version == highest],
+        [source for source in sources if source.version < highest],
+    )
 
 
 def is_quiet(path, patience):

@@ -7,6 +7,7 @@ import math
 import os
 from dataclasses import dataclass, field
 
+from pressroom.intake.shrunk import Shrunk
 from pressroom.tiff.strips import STRIP, StripFile
 
 # The low resolution, in pixels an inch: for the places of spots, and for ink at the pixels' centres.
@@ -92,10 +93,10 @@ class Separations:
     """Writes the files `cmyk.tif` and `spot-N.tif` to a page's folder, and records what the page shows.
 
     `tables` has the inks of spots by name, where Ghostscript made them; `has_all` is whether the page has the
-    separation All, which isn't a mixture of spots.
+    separation All, which isn't a mixture of spots. If means over blocks are `asked`, it writes them, too.
     """
 
-    def __init__(self, folder, size, dpi, spots, house, tables=None, has_all=False):
+    def __init__(self, folder, size, dpi, spots, house, tables=None, has_all=False, asked=None):
         import numpy as np
 
         self.folder, self.size, self.dpi, self.colours = folder, size, dpi, set()
@@ -111,6 +112,7 @@ class Separations:
         self.mixed = [shown.spot.plane for shown in self.spots if not shown.house]
         self.has_all = has_all and bool(self.mixed)
         self.kept = {}
+        self.shrunk = Shrunk(asked, size, dpi) if asked else None
 
     def add(self, strip, planes):
         """Adds a strip: an array of planes, rows and columns, which this may change."""
@@ -133,6 +135,9 @@ class Separations:
             if inked[number]:
                 self.colours.add(letter)
                 self.cmyk.write(strip, number, planes[number])
+        if self.shrunk:
+            spot = next((planes[s.spot.plane] for s in self.spots if s.house and inked[s.spot.plane]), None)
+            self.shrunk.add(strip * STRIP, [*(planes[n] if inked[n] else None for n in range(4)), spot])
 
     def look(self, strip, planes, inked):
         """Samples this strip's ink at the centres of the low-resolution pixels, with all spots mixed in."""
@@ -176,6 +181,8 @@ class Separations:
         letters of its inks, and the spots that show.
         """
         self.cmyk.close()
+        if self.shrunk:
+            self.shrunk.save(self.folder)
         colours = "".join(letter for letter in "CMYK" if letter in self.colours)
         spots = [self.facts(shown) for shown in self.spots if shown.box]
         return {"colours": colours, "spots": spots}

@@ -10,10 +10,12 @@ import json
 import os
 import re
 import shutil
+from typing import Any
 
 from pressroom import __version__
 from pressroom.plans import plans
 
+STATE = "state"
 OWN = re.compile(r"[A-Za-z0-9_]+-[0-9a-f]{16}-[a-z0-9]+\.tif(\.new)?")
 
 
@@ -34,10 +36,24 @@ def settings(house, versions):
         [house.spot.separation, house.spot.names, house.spot.aliases] if house.spot else None,
         house.rgb,
         house.spots,
+        house.overprint_black,
+        vars(house.check),
         sum_of(house.profile) if house.profile else None,
         sorted((press.name, press.limit) for press in house.presses.values()),
     ]
     return hashlib.sha256(json.dumps(values).encode()).hexdigest()
+
+
+def notes_of(path: str) -> list[dict[str, Any]]:
+    """Returns the notes of the last intake into the folder WORK, as Work.note records them; none if there was no
+    intake.
+    """
+    try:
+        with open(os.path.join(path, STATE), encoding="utf-8") as file:
+            found = json.load(file)["notes"]
+        return [note for note in found if isinstance(note, dict) and isinstance(note.get("text"), str)]
+    except (OSError, ValueError, LookupError, TypeError):
+        return []
 
 
 class Work:
@@ -51,12 +67,12 @@ class Work:
         for name in os.listdir(path):
             if name.startswith(".page-"):
                 shutil.rmtree(os.path.join(path, name), ignore_errors=True)
-        self.pages = self.read()
+        self.pages, self.notes = self.read(), notes_of(path)
 
     def read(self):
         """Returns the pages of the last call by place, or none if the state can't be read."""
         try:
-            with open(os.path.join(self.path, "state"), encoding="utf-8") as file:
+            with open(os.path.join(self.path, STATE), encoding="utf-8") as file:
                 pages = json.load(file)["pages"]
             return {place: page for place, page in pages.items() if self.holds(page)}
         except (OSError, ValueError, LookupError, TypeError, AttributeError):
@@ -80,8 +96,14 @@ class Work:
             self.pages[str(place)] = new
             self.write()
 
+    def note(self, notes):
+        """Records all notes of this call: objects with `text` and the fields of the event."""
+        self.notes = notes
+        self.write()
+
     def write(self):
-        plans.write(os.path.join(self.path, "state"), {"version": __version__, "pages": self.pages})
+        stored = {"version": __version__, "pages": self.pages, "notes": self.notes}
+        plans.write(os.path.join(self.path, STATE), stored)
 
     def save(self, places):
         """Records only the pages of these places."""

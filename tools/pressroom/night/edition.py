@@ -217,9 +217,8 @@ def place_of(house: NightHouse, edition: Planned, name: bytes) -> PageKey | None
     zone, _, rest = text.rpartition("/")
     if kind_of(name) is None:
         return None
-    found = Names(replace(house.house, sections=edition.sections)).place(
-        os.path.splitext(rest)[0], zone or None
-    )
+    names = Names(replace(house.house, sections=edition.sections))
+    found, _ = names.read(os.path.splitext(rest)[0], zone or None)
     if found is None:
         return None
     key = PageKey(zone, found.section, found.page)

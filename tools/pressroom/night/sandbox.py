@@ -95,7 +95,9 @@ def room(kind: Kind, spool: str, scratch: str, needed: Sequence[str], targets: S
         ]
         hidden = [path for path in private.values() if os.path.isdir(path)]
         shown += [word for path in hidden for word in ("--tmpfs", path)]
-        shown += ["--dev", "/dev", "--proc", "/proc", *bound("--bind", [scratch, *targets])]
+        # After /dev, since a spool may be in memory, below /dev/shm.
+        shown += ["--dev", "/dev", "--proc", "/proc", *bound("--ro-bind", [os.path.join(spool, "plates")])]
+        shown += bound("--bind", [scratch, *targets])
     else:
         shown = ["--unshare-all", "--ro-bind", "/usr", "/usr"]
         shown += [word for name in LINKS for word in ("--symlink", f"usr/{name}", f"/{name}")]

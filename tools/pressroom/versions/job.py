@@ -8,7 +8,7 @@ import os
 import tempfile
 import time
 from collections.abc import Callable, Iterator
-from typing import TypedDict
+from typing import Any, TypedDict
 
 from pressroom.base import disk, runs
 from pressroom.base.console import Console, fault_of
@@ -58,8 +58,14 @@ class Job:
         self.presses: dict[str, dict[str, object]] = {}
         self.sites: dict[str, SiteResult] = {}
         self.wrong: dict[str, str] = {}
+        self.notes: list[dict[str, Any]] = []
         self.begun = time.strftime("%Y-%m-%dT%H:%M:%SZ", time.gmtime())
         self.scratch = tempfile.TemporaryDirectory(prefix="pressroom-")
+
+    def pass_on(self, notes: list[dict[str, Any]]) -> None:
+        """Reports the notes of the intake that made WORK, and keeps them for the report."""
+        self.notes = notes
+        tell_notes(self.console, notes)
 
     def check(self) -> list[Plan]:
         """Returns the plans if the program accepts all of them with their files; otherwise raises Refused."""
@@ -224,9 +230,17 @@ class Job:
     def write_report(self, status: int, **more: object) -> None:
         """Writes report.json."""
         plans = {"presses": self.presses, "sites": self.sites, "seconds": self.seconds.by_step}
+        plans["notes"] = self.notes
         report = {"version": self.version.name, "begun": self.begun, "status": status, **more, **plans}
         text = json.dumps(report, indent=1, ensure_ascii=False) + "\n"
         disk.write_whole(self.version.file(REPORT), text.encode())
+
+
+def tell_notes(console: Console, notes: list[dict[str, Any]]) -> None:
+    """Reports notes as `notes_of` returns them."""
+    for note in notes:
+        fields = {key: value for key, value in note.items() if key not in ("text", "event")}
+        console.tell("note", note["text"], **fields)
 
 
 def twice(plans: list[Plan]) -> Iterator[tuple[str, str, str]]:

@@ -5,9 +5,11 @@ import os
 
 from pressroom.base import disk, runs
 from pressroom.base.console import Console, fault_of
+from pressroom.intake.state import notes_of
 from pressroom.plans.plan_reader import Plan, plans_of
 from pressroom.versions import version
 from pressroom.versions.job import (
+    tell_notes,
     ALL_READY,
     CANT_BEGIN,
     FILE_REFUSED,
@@ -44,10 +46,12 @@ def late_locked(
     new.take(work)
     if new.taken_sums() == old.taken_sums():
         disk.remove(new.path)
+        tell_notes(console, notes_of(work))
         console.tell("done", f"nothing changed since {old.path}", version=old.name, status=ALL_READY)
         return ALL_READY, old
     job = Job(new, program, console)
     console.tell("begin", f"{new.path} beside {old.path}", version=new.name, since=old.name)
+    job.pass_on(notes_of(work))
     try:
         plans = job.check()
     except Refused as refused:
@@ -167,7 +171,9 @@ def take_pages(words: argparse.Namespace, console: Console, placed: Placed) -> i
         return 0
     answer = runs.call(runs.command("intake", words.house, words.into, words.work))
     for line in [*answer.lines, *answer.note.splitlines()]:
-        console.tell("intake", line)
+        # The notes of an intake that ends with 0 are reported with the version that is made of it.
+        if answer.status or not line.startswith("note: "):
+            console.tell("intake", line)
     return 0 if answer.status == 0 else FILE_REFUSED
 
 

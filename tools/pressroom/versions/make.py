@@ -5,6 +5,7 @@ import shutil
 from pressroom.base import disk, runs
 from pressroom.base.ask import HERE
 from pressroom.base.console import Console
+from pressroom.intake.state import notes_of
 from pressroom.plans.plan_reader import Plan, plans_of
 from pressroom.plans.ring import ring_of
 from pressroom.versions import version
@@ -50,6 +51,7 @@ def make_locked(
     new.take(work)
     job = Job(new, program, console)
     console.tell("begin", new.path, version=new.name)
+    job.pass_on(notes_of(work))
     try:
         plans = job.check()
     except Refused as refused:
