@@ -78,6 +78,12 @@ class StripFile:
         self.see(library().TIFFWriteEncodedStrip(self.file, number, data.ctypes.data, size))
         self.written.add(number)
 
+    def copy(self, strip: int, plane: int, data: bytes) -> None:
+        """Writes a strip of a plane as it is stored in another file."""
+        number = plane * self.strips + strip
+        self.see(library().TIFFWriteRawStrip(self.file, number, data, len(data)))
+        self.written.add(number)
+
     def see(self, count: int) -> None:
         """Raises Unpacked if a strip wasn't written."""
         if count < 0:
