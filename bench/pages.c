@@ -9,7 +9,13 @@
  *                                    a layer of the page before it, with its crop; MASK is - for none */
 #include "plate.h"
 
-enum { LAYERS = 32, PAGES = 64, IMAGES = 64, WIDEST = 1 << 16 };
+enum { LAYERS = 32, PAGES = 64, IMAGES = 64, WIDEST = 1 << 16, BLOCK = 64 };
+
+#ifdef SHORT
+enum { SHORT_WAYS = 1 };
+#else
+enum { SHORT_WAYS = 0 };
+#endif
 
 struct layer {
     int line, overprint;
@@ -161,14 +167,30 @@ static void paint(const struct page *page, uint32_t y, uint8_t planes[INKS][WIDE
     }
 }
 
+/* Whether a block has this one value. */
+static int all_are(const uint8_t *values, uint8_t value) {
+    uint8_t others = 0;
+    for (int i = 0; i < BLOCK; i++)
+        others |= values[i] ^ value;
+    return !others;
+}
+
 static void curve(uint8_t *plane, const uint8_t *table) {
-    for (uint32_t x = 0; x < wide; x++)
+    uint32_t x = 0;
+    for (; SHORT_WAYS && x + BLOCK <= wide; x += BLOCK) {
+        if (all_are(plane + x, plane[x]))
+            memset(plane + x, table[plane[x]], BLOCK);
+        else
+            for (int i = 0; i < BLOCK; i++)
+                plane[x + i] = table[plane[x + i]];
+    }
+    for (; x < wide; x++)
         plane[x] = table[plane[x]];
 }
 
-static void limit_row(uint8_t *restrict cyan, uint8_t *restrict magenta, uint8_t *restrict yellow,
-                      uint8_t *restrict black) {
-    for (uint32_t x = 0; x < wide; x++) {
+static void limit_part(uint32_t from, uint32_t to, uint8_t *restrict cyan, uint8_t *restrict magenta,
+                       uint8_t *restrict yellow, uint8_t *restrict black) {
+    for (uint32_t x = from; x < to; x++) {
         uint32_t c = cyan[x], m = magenta[x], y = yellow[x], k = black[x], colours = c + m + y;
         if (colours + k <= limit)
             continue;
@@ -178,6 +200,25 @@ static void limit_row(uint8_t *restrict cyan, uint8_t *restrict magenta, uint8_t
         yellow[x] = colours ? y * rest / colours : 0;
         black[x] = kept;
     }
+}
+
+static void limit_row(uint8_t *cyan, uint8_t *magenta, uint8_t *yellow, uint8_t *black) {
+    uint32_t x = 0;
+    for (; SHORT_WAYS && limit >= 255 && x + BLOCK <= wide; x += BLOCK)
+        if (!all_are(cyan + x, 0) || !all_are(magenta + x, 0) || !all_are(yellow + x, 0))
+            limit_part(x, x + BLOCK, cyan, magenta, yellow, black);
+    limit_part(x, wide, cyan, magenta, yellow, black);
+}
+
+/* A row of a page under a row of the tile. */
+static void screen(const uint8_t *plane, const uint8_t *tile, uint8_t *bits) {
+    uint32_t x = 0;
+    for (; SHORT_WAYS && x + BLOCK <= wide; x += BLOCK)
+        if (all_are(plane + x, 0))
+            memset(bits + x / 8, 0, BLOCK / 8);
+        else
+            tile_row(plane + x, BLOCK, tile, bits + x / 8);
+    tile_row(plane + x, wide - x, tile, bits + x / 8);
 }
 
 /* Puts a page's bits behind so many bits of a row. */
@@ -211,8 +252,8 @@ static int make_pair(const struct page *pair, int number) {
                 limit_row(planes[side][0], planes[side][1], planes[side][2], planes[side][3]);
         }
         for (int ink = 0; ink < INKS; ink++) {
-            tile_row(planes[0][ink], wide, thresholds[y % 8], bits);
-            tile_row(planes[1][ink], wide, thresholds[y % 8], half);
+            screen(planes[0][ink], thresholds[y % 8], bits);
+            screen(planes[1][ink], thresholds[y % 8], half);
             put(half, bytes, wide, bits);
             size_t count = pack(bits, row, packed);
             for (int site = 0; site < sites; site++) {

@@ -156,11 +156,11 @@ def built(folder, source, *options):
     return program
 
 
-def plain(plan, scale, files, out, folder):
-    """The command of plain C that makes the plates of a plan."""
+def plain(plan, scale, files, out, folder, *options):
+    """The command of plain C, built with these options, that makes the plates of a plan."""
     fronts = [os.path.join(out, site["name"], plan["edition"] + "-A") for site in plan["sites"]]
     if scale is None:
-        return [built(folder, "pages"), *words(plan, files, fronts)]
+        return [built(folder, "pages", *options), *words(plan, files, fronts)]
     images = [os.path.join(files, f"{page['name']}.tif") for page in shown(plan)]
     screen, alone = plan["screens"]["K"], plan["pages"][0]["inks"] == "K"
     if screen != plan["screens"]["M"]:

@@ -2,12 +2,13 @@
 """Measures the program on pages as a pressroom has them: CMYK at the plate's resolution, planar and packed.
 
 usage: bench/real.py PROGRAM FOLDER [--before PROGRAM] [--pages N] [--size WIDTH HEIGHT] [--processors LIST]
-                     [--runs N] [--no-plain] [--one-strip]
+                     [--runs N] [--no-plain] [--one-strip] [--press]
 
 The pages have text in K, pictures in four inks and bare paper in the proportions of a newspaper's, as
 Ghostscript and `tiffcp -p separate -c packbits -r 64` write them: PackBits, one plane an ink, strips of 64
 rows; with --one-strip all rows of a plane are one strip. Every fourth page prints K alone. Three sites print
-all pages.
+all pages. With --press each ink has a curve and a pixel at most 240 percent of ink, as a press needs it, and
+each row of a picture comes four times, as Ghostscript enlarges a picture of a quarter of the resolution.
 
 For each number of processors of LIST (1,2,4) it prints the seconds of wall-clock and CPU time, the best of
 the runs, of `run`, of the part of `run` before the first row (its plates can't be written), of `verify`, of
@@ -37,13 +38,14 @@ import sites
 
 EACH = 64
 PICTURES, LINES = 16, 12
+LIMIT = 612
 
 
 class Rows:
     """The kinds of rows that pages are made of, each in four planes, packed and as pixels side by side."""
 
-    def __init__(self, width, wants_pixels):
-        self.width, self.wants_pixels = width, wants_pixels
+    def __init__(self, width, wants_pixels, enlarged=1):
+        self.width, self.wants_pixels, self.enlarged = width, wants_pixels, enlarged
         self.paper = self.kept([bytes(width)] * 4)
         self.text = [self.kept(self.text_row(kind)) for kind in range(LINES)]
         noise = random.Random(5).randbytes(3 * width)
@@ -72,14 +74,16 @@ class Rows:
         first, last = self.width // 5, 4 * self.width // 5
         for ink in range(4):
             at = (977 * kind + 131 * ink) % self.width
-            ramp = (x * 200 // self.width + 9 * ink + 3 * kind for x in range(first, last))
-            planes[ink][first:last] = bytes((v + (g & 15)) & 255 for v, g in zip(ramp, noise[at:]))
+            columns = [x // self.enlarged * self.enlarged for x in range(first, last)]
+            ramp = (x * 200 // self.width + 9 * ink + 3 * kind for x in columns)
+            grain = (noise[at + x // self.enlarged] for x in range(last - first))
+            planes[ink][first:last] = bytes((v + (g & 15)) & 255 for v, g in zip(ramp, grain))
         return [bytes(plane) for plane in planes]
 
     def at(self, y, pictured):
         """The row of a page: 1,200 of 4,000 rows cross a picture; text takes 40 of 70 rows; the rest is paper."""
         if pictured and y % 4000 < 1200:
-            return self.picture[y * 7 % PICTURES]
+            return self.picture[y // self.enlarged * 7 % PICTURES]
         return self.text[y // 5 % LINES] if y % 70 < 40 else self.paper
 
 
@@ -123,14 +127,16 @@ def write_pixels(path, rows, size, pictured):
             file.write(rows.at(y, pictured)[1])
 
 
-def plan_of(count, size):
+def plan_of(count, size, is_press):
+    """The plan of so many pages, with curves and an ink limit if it is a press's."""
     names = [f"p{number}" for number in range(count)]
     shown = [
         {"name": name, "inks": "K" if number % 4 == 3 else "CMYK",
          "layers": [{"kind": "contone", "file": f"{name}.tif"}]}
         for number, name in enumerate(names)
     ]
-    return {"plan": 1, "edition": "REAL", "dpi": 1200, "page": list(size), "pages": shown,
+    tone = {"curves": pages.CURVES, "limit": LIMIT} if is_press else {}
+    return tone | {"plan": 1, "edition": "REAL", "dpi": 1200, "page": list(size), "pages": shown,
             "sections": [{"name": "A", "pages": names}], "sites": sites.sites(3)}
 
 
@@ -182,10 +188,12 @@ def compare_plain(options, folder, plan, rows):
         write_pixels(os.path.join(pixels, page["layers"][0]["file"]), rows, options.size, number % 4 != 3)
     for site in plan["sites"]:
         os.makedirs(os.path.join(out, site["name"]))
-    spent = took(pages.plain(plan, None, pixels, out, folder), 1)
-    for site in plan["sites"]:
-        compare_site(os.path.join(folder, "out", site["name"]), os.path.join(out, site["name"]))
-    print(f"| plain C, one thread | 1 | {spent[0]:.2f} ({spent[1]:.2f}) |")
+    for name, ways in (("plain C, one thread", ()), ("the same with the short ways", ("-DSHORT",))):
+        command = pages.plain(plan, None, pixels, out, folder, *ways)
+        spent = min(took(command, 1) for _ in range(options.runs))
+        for site in plan["sites"]:
+            compare_site(os.path.join(folder, "out", site["name"]), os.path.join(out, site["name"]))
+        print(f"| {name} | 1 | {spent[0]:.2f} ({spent[1]:.2f}) |", flush=True)
 
 
 def compare_site(own, plain):
@@ -207,12 +215,13 @@ def main():
     parser.add_argument("--runs", type=int, default=3)
     parser.add_argument("--no-plain", action="store_true")
     parser.add_argument("--one-strip", action="store_true")
+    parser.add_argument("--press", action="store_true", help="curves, an ink limit and enlarged pictures")
     options = parser.parse_args()
     options.processors = [int(number) for number in options.processors.split(",")]
     with tempfile.TemporaryDirectory(dir=options.folder, prefix="real-") as folder:
-        files, plan = os.path.join(folder, "files"), plan_of(options.pages, options.size)
+        files, plan = os.path.join(folder, "files"), plan_of(options.pages, options.size, options.press)
         os.mkdir(files)
-        rows = Rows(options.size[0], not options.no_plain)
+        rows = Rows(options.size[0], not options.no_plain, 4 if options.press else 1)
         each = options.size[1] if options.one_strip else EACH
         for number, page in enumerate(plan["pages"]):
             write_packed(os.path.join(files, f"p{number}.tif"), rows, options.size, number % 4 != 3, each)

@@ -5,3 +5,4 @@ pub mod Only
 pub mod Pages
 pub mod Blocks
 pub mod Slices
+pub mod Again

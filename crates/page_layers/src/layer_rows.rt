@@ -57,7 +57,7 @@ impl<'a> Model for LayerRows<'a> {
 }
 
 impl<'a> LayerRows<'a> {
-    ghost use Rattle.std.specs.Prelude.{◌≡◌, ℕ, ◌+◌, ◌<◌, ◌≤◌, IsTrue};
+    ghost use Rattle.std.specs.Prelude.{◌≡◌, ℕ, ◌+◌, ◌<◌, ◌≤◌, IsTrue, false};
     ghost use Rattle.page_layers.specs.Inks.{HasWidth, Planes, blank, inks_at, only, painted_inks};
     ghost use Rattle.page_layers.specs.Layer.{IsLayer, painted, row_at};
     ghost use Rattle.page_layers.specs.Page.{shows_alike, shows_on};
@@ -179,9 +179,41 @@ impl<'a> LayerRows<'a> {
         }
     }
 
+    // Reads up to row `row` of the image and expands it to paint, unless the paint is known to be that row.
+    fn stand_behind(&mut self, row: u32, room: &mut ReadRoom)
+        requires before { self.old.read ≤ row + 1 }
+        requires crop { self.old.layer.crop.y ≤ row }
+        requires within { row < self.old.layer.crop.y + self.old.layer.crop.height }
+        ensures { self.new ≡ record self.old { read = row + 1 } }
+    {
+        if self.pass_again(row) {
+            return;
+        }
+        self.read_behind(row, room);
+    }
+
+    // Skips row `row` of the image and returns true, if it is known to equal the row above it, which was read
+    // last: then the paint is the same. Otherwise nothing changes.
+    fn pass_again(&mut self, row: u32) -> bool
+        requires within { row < self.old.layer.crop.y + self.old.layer.crop.height }
+        ensures passed { IsTrue result → self.new ≡ record self.old { read = row + 1 } }
+        ensures kept { result ≡ false → self.new ≡ self.old }
+    {
+        if !is_bare(&self.layer) {
+            return false;
+        }
+        if !self.image.has_planes() {
+            return false;
+        }
+        if !self.image.pass_again(row, self.inks.colour) {
+            return false;
+        }
+        true
+    }
+
     // Reads up to row `row` of the image and expands it to paint, unless that row was read last.
     #[tactic(auto, using(crate::proofs::Layers::row_most))]
-    fn stand_behind(&mut self, row: u32, room: &mut ReadRoom)
+    fn read_behind(&mut self, row: u32, room: &mut ReadRoom)
         requires before { self.old.read ≤ row + 1 }
         requires crop { self.old.layer.crop.y ≤ row }
         requires within { row < self.old.layer.crop.y + self.old.layer.crop.height }

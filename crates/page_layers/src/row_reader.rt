@@ -23,7 +23,8 @@ impl<'a> Model for RowReader<'a> {
 }
 
 impl<'a> RowReader<'a> {
-    ghost use Rattle.std.specs.Prelude.{◌≡◌, ◌+◌, ◌-◌, ◌<◌, ◌≤◌, ◌↔◌, IsTrue, length};
+    ghost use Rattle.std.specs.Prelude.{◌≡◌, ◌+◌, ◌-◌, ◌<◌, ◌≤◌, ◌↔◌, IsTrue, false, length};
+    ghost use Rattle.tif_strips.specs.Again.{ComesAgain};
     ghost use Rattle.tif_strips.specs.Strips.{ink_part, planes, row_length};
     ghost use Rattle.page_layers.specs.Reader.{Holds, crop_length, crop_part};
 
@@ -95,6 +96,26 @@ impl<'a> RowReader<'a> {
         self.rows.skip_rows(y - self.read);
         self.rows.next_planes(first, cyan, magenta, yellow, black);
         self.read = y + 1;
+    }
+
+    /// Skips row `y` of an image whose inks have their own planes and returns true, if it is the next row and is
+    /// known to equal the row above it: in black, and in the colours if `colour`. Otherwise nothing changes.
+    pub(crate) fn pass_again(&mut self, y: u32, colour: bool) -> bool
+        requires small { y < 65535 }
+        requires planes { planes self.old.shape ≡ 4 }
+        ensures at { IsTrue result → self.old.next ≡ y }
+        ensures again { IsTrue result → ComesAgain self.old.shape self.old.bytes colour y }
+        ensures reader { IsTrue result → self.new ≡ record self.old { next = y + 1 } }
+        ensures kept { result ≡ false → self.new ≡ self.old }
+    {
+        if self.read != y {
+            return false;
+        }
+        if !self.rows.pass_again(colour) {
+            return false;
+        }
+        self.read = y + 1;
+        true
     }
 
     /// Returns the crop's columns of the row read last, from the buffer that they were read into.

@@ -9,3 +9,4 @@ pub mod Pairs
 pub mod Rows
 pub mod Frames
 pub mod Framing
+pub mod Wholes

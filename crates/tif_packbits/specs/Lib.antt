@@ -4,3 +4,4 @@ pub mod Packbits
 pub mod Packet
 pub mod PacketCursor
 pub mod Unpacker
+pub mod WholePackets

@@ -11,9 +11,11 @@ mod packet;
 mod packet_cursor;
 mod row_front;
 mod unpacker;
+mod whole_packets;
 
 pub use frame::{frame_len, frame_row, framed};
 pub use laws::{frame_tells_its_row, packing_expands_to_its_row, packing_stays_within_bound};
 pub use pack::{pack_bound, pack_row};
 pub use packet_cursor::PacketCursor;
 pub use unpacker::{Short, Unpacker};
+pub use whole_packets::WholePackets;

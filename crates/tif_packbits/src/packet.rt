@@ -1,5 +1,5 @@
 // One packet: a header byte, then a literal's bytes or the byte to repeat.
-ghost use Rattle.std.specs.Prelude.{◌≡◌, ◌-◌, ◌<◌, ◌↔◌, ◌++◌, ◌==◌, IsTrue, [], length, min, take, drop};
+ghost use Rattle.std.specs.Prelude.{◌≡◌, ◌-◌, ◌<◌, ◌↔◌, ◌++◌, ◌==◌, IsTrue, List, ℕ, [], length, min, take, drop};
 ghost use Rattle.std.specs.List.{prefix_len};
 ghost use Rattle.tif_packbits.specs.Packbits.{expansion};
 ghost use Rattle.tif_packbits.specs.Packet.{left_of};
@@ -28,6 +28,9 @@ pub fn first_packet(packed: &[u8]) -> (Packet<'_>, &[u8])
     ensures whole { expansion packed.now ≡ left_of result.0 ++ expansion result.1.now }
     ensures shorter { length result.1.now < length packed.now }
     ensures behind { result.1.now ≡ drop (length packed.now - length result.1.now) packed.now }
+    ensures alike { 0 < length (expansion packed.now) → (other : List ℕ) →
+        expansion (take (length packed.now - length result.1.now) packed.now ++ other)
+        ≡ left_of result.0 ++ expansion other }
 {
     let header = packed[0];
     let data = &packed[1..];

@@ -1,9 +1,10 @@
 // The expansion of packed bytes, produced piece by piece.
 ghost use Rattle.std.specs.Prelude.{◌≡◌, ◌<◌, ◌≤◌, ◌↔◌, List, ℕ, [], ◌∷◌, ◌++◌, length, take, drop};
-ghost use Rattle.std.specs.Prelude.{MatchOption, IfNone, IsOk, IsErr, OnOk, OnErr};
+ghost use Rattle.std.specs.Prelude.{MatchOption, IfNone, IfSome, IsOk, IsErr, IsTrue, OnOk, OnErr, false};
 ghost use Rattle.tif_packbits.specs.Packbits.{expansion};
 
 use crate::packet::{Packet, first_packet};
+use crate::whole_packets::{WholePackets, fill_from};
 use std::marker::Model;
 use thiserror::Error;
 
@@ -76,6 +77,58 @@ impl<'a> Unpacker<'a> {
                 return Err(Short);
             }
             (packet, rest) = first_packet(rest);
+        }
+    }
+
+    /// Fills `into` with the next bytes, and returns the packets that hold them, if these are whole.
+    pub fn fill_whole(&mut self, into: &mut [u8]) -> Option<WholePackets<'a>>
+        requires { length into.old ≤ length self.old }
+        ensures filled { into.new ≡ take (length into.old) self.old }
+        ensures left { self.new ≡ drop (length into.old) self.old }
+        ensures whole { IfSome result (λ packets. packets ≡ into.new) }
+    {
+        if !self.packet.is_over() {
+            let Ok(()) = self.fill(into) else {
+                unreachable!()
+            };
+            return None;
+        }
+        let packed = self.rest;
+        let (packet, rest) = fill_from(packed, into);
+        self.packet = packet;
+        self.rest = rest;
+        if !packet.is_over() {
+            return None;
+        }
+        Some(WholePackets {
+            packed: &packed[..packed.len() - rest.len()],
+        })
+    }
+
+    /// Returns true only if the bytes of these packets come next. Compares the packed bytes.
+    pub fn has_next(&self, packets: &WholePackets<'_>) -> bool
+        ensures { IsTrue result → take (length packets.now) self.now ≡ packets.now }
+    {
+        if !self.packet.is_over() {
+            return false;
+        }
+        self.rest.starts_with(packets.packed)
+    }
+
+    /// Skips the bytes of these packets, if their packed bytes come next. Otherwise skips nothing.
+    pub fn pass_whole(&mut self, packets: &WholePackets<'_>) -> bool
+        ensures passed { IsTrue result → self.old ≡ packets.now ++ self.new }
+        ensures kept { result ≡ false → self.new ≡ self.old }
+    {
+        if !self.packet.is_over() {
+            return false;
+        }
+        match self.rest.strip_prefix(packets.packed) {
+            Some(rest) => {
+                self.rest = rest;
+                true
+            }
+            None => false,
         }
     }
 

@@ -4,6 +4,7 @@ pub mod Marks
 pub mod Rows
 pub mod Fours
 pub mod Inks
+pub mod Agains
 pub mod Ahead
 pub mod Places
 pub mod Walks

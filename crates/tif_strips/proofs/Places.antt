@@ -193,7 +193,7 @@ row_ahead image place plane row is some row_is known =
     rw row_is (rw (front, here) at first)
 
 -- each plane has at least a row of bytes ahead
-row_long : (image : Image) (place : Place) (plane row : ℕ) → IsPlace image place → 0 < place.rows
+pub row_long : (image : Image) (place : Place) (plane row : ℕ) → IsPlace image place → 0 < place.rows
     → row ≡ plane_row_length image.shape → plane < planes image.shape
     → row ≤ length (get_or (aheads_of place.planes) plane [])
 row_long image place plane row is some row_is known = rw row_is (one_row place.rows (plane_row_length image.shape) _ some (is.each plane known).enough)

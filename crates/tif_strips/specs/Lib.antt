@@ -6,4 +6,5 @@ pub mod Marking
 pub mod Table
 pub mod Planes
 pub mod Place
+pub mod Again
 pub mod Walk

@@ -4,6 +4,7 @@
 #![tactic(auto)]
 
 mod extents;
+mod last_row;
 mod marking;
 mod place;
 mod planes;

@@ -1,8 +1,10 @@
 // The position of a cursor in an image.
-ghost use Rattle.std.specs.Prelude.{◌≡◌, ◌+◌, ◌<◌, ◌≤◌, length, None};
+ghost use Rattle.std.specs.Prelude.{◌≡◌, ◌+◌, ◌<◌, ◌≤◌, IsTrue, false, length, None};
+ghost use Rattle.tif_strips.specs.Again.{AreAbove, ComesAgain};
 ghost use Rattle.tif_strips.specs.Strips.{IsStriped, image_part, image_row, part_length, row_length};
 ghost use Rattle.tif_strips.specs.Strips.{planes, strip_fault};
 
+use crate::last_row::LastRow;
 use crate::planes::Planes;
 use crate::samples::Samples;
 use crate::shape::MARK_ROWS;
@@ -62,7 +64,8 @@ impl<'a> Place<'a> {
     }
 
     /// Reads the inks of the next row, each of which has its own plane: from column `first` on, as many
-    /// samples of each ink as its slice holds.
+    /// samples of each ink as its slice holds. Returns the packets of the inks that are read whole, where they
+    /// are known.
     pub(crate) fn read_inks(
         &mut self,
         table: &StripTable<'a>,
@@ -71,7 +74,7 @@ impl<'a> Place<'a> {
         magenta: &mut [u8],
         yellow: &mut [u8],
         black: &mut [u8],
-    )
+    ) -> LastRow<'a>
         requires place { IsPlace table.now self.old }
         requires left { self.old.next < table.now.shape.length }
         requires planes { planes table.now.shape ≡ 4 }
@@ -80,13 +83,46 @@ impl<'a> Place<'a> {
             cyan.new magenta.new yellow.new black.new }
         ensures place { IsPlace table.now self.new }
         ensures next { self.new.next ≡ self.old.next + 1 }
+        ensures known { AreAbove table.now (self.old.next + 1) result }
     {
         self.enter(table);
         let row = table.shape().plane_row_len();
-        self.planes
+        let last = self
+            .planes
             .inks(row, first as usize, cyan, magenta, yellow, black);
         self.rows -= 1;
         self.next += 1;
+        last
+    }
+
+    /// Skips the next row of an image whose inks have their own planes and returns true, if it is known to equal
+    /// the row above it: in black, and in the colours if `colour`. Rows of different strips are not compared.
+    pub(crate) fn pass_again(
+        &mut self,
+        table: &StripTable<'a>,
+        colour: bool,
+        last: &LastRow<'_>,
+    ) -> bool
+        requires place { IsPlace table.now self.old }
+        requires planes { planes table.now.shape ≡ 4 }
+        requires known { AreAbove table.now self.old.next last.now }
+        ensures again { IsTrue result → ComesAgain table.now.shape table.now.bytes colour self.old.next }
+        ensures known { IsTrue result → AreAbove table.now (self.old.next + 1) last.now }
+        ensures left { IsTrue result → self.old.next < table.now.shape.length }
+        ensures next { IsTrue result → self.new.next ≡ self.old.next + 1 }
+        ensures kept { result ≡ false → self.new ≡ self.old }
+        ensures place { IsPlace table.now self.new }
+    {
+        if self.rows == 0 {
+            return false;
+        }
+        if !self.planes.have_next(colour, last) {
+            return false;
+        }
+        self.planes.pass(table.shape().plane_row_len(), last);
+        self.rows -= 1;
+        self.next += 1;
+        true
     }
 
     /// Skips the next `count` rows. Strips that end among them are not read any further, except a last strip

@@ -1,8 +1,10 @@
 // The planes of the strip at a cursor, and pixels interleaved from four of them.
-ghost use Rattle.std.specs.Prelude.{◌≡◌, ◌≢◌, ℕ, ◌+◌, ◌*◌, ◌<◌, ◌≤◌, [], ◌∷◌, length, map, take, drop};
+ghost use Rattle.std.specs.Prelude.{◌≡◌, ◌≢◌, ℕ, ◌+◌, ◌*◌, ◌<◌, ◌≤◌, IsTrue, [], ◌∷◌, length, map, take, drop};
 ghost use Rattle.std.specs.Prelude.{slice_index_or};
+ghost use Rattle.tif_strips.specs.Again.{AreFirst, AreLong, AreNext};
 ghost use Rattle.tif_strips.specs.Planes.{FitInks, HasPixels, TakeInks};
 
+use crate::last_row::LastRow;
 use crate::samples::Samples;
 
 /// The number of pixels interleaved at a time.
@@ -45,7 +47,7 @@ impl<'a> Planes<'a> {
     }
 
     /// Reads the next row of four planes, which is `row` bytes long, from byte `from` on: as many samples of
-    /// each ink as its slice holds.
+    /// each ink as its slice holds. Returns the packets of the inks that are read whole, where they are known.
     pub(crate) fn inks(
         &mut self,
         row: usize,
@@ -54,7 +56,7 @@ impl<'a> Planes<'a> {
         magenta: &mut [u8],
         yellow: &mut [u8],
         black: &mut [u8],
-    )
+    ) -> LastRow<'a>
         requires four { length (aheads_of self.old) ≡ 4 }
         requires fits { FitInks row from cyan.old magenta.old yellow.old black.old }
         requires enough { (plane : ℕ) → plane < length (aheads_of self.old)
@@ -62,10 +64,37 @@ impl<'a> Planes<'a> {
         ensures inks { TakeInks (aheads_of self.old) from cyan.old magenta.old yellow.old black.old
             cyan.new magenta.new yellow.new black.new }
         ensures left { aheads_of self.new ≡ map (drop row) (aheads_of self.old) }
+        ensures known { AreFirst row (aheads_of self.old) result }
     {
         match self {
             Planes::One(_) => unreachable!(),
             Planes::Four(inks) => inks.part(row, from, cyan, magenta, yellow, black),
+        }
+    }
+
+    /// Returns true only if the next row is a known one in each ink that is known, which black is, and the
+    /// colours if `colour`.
+    pub(crate) fn have_next(&self, colour: bool, last: &LastRow<'_>) -> bool
+        requires four { length (aheads_of self.now) ≡ 4 }
+        ensures { IsTrue result → AreNext colour (aheads_of self.now) last.now }
+    {
+        match self {
+            Planes::One(_) => unreachable!(),
+            Planes::Four(inks) => inks.have_next(colour, last),
+        }
+    }
+
+    /// Skips the next row of four planes, which is `row` bytes long, at once where it equals the known one.
+    pub(crate) fn pass(&mut self, row: usize, last: &LastRow<'_>)
+        requires four { length (aheads_of self.old) ≡ 4 }
+        requires long { AreLong row last.now }
+        requires enough { (plane : ℕ) → plane < length (aheads_of self.old)
+            → row ≤ length (slice_index_or (aheads_of self.old) plane []) }
+        ensures left { aheads_of self.new ≡ map (drop row) (aheads_of self.old) }
+    {
+        match self {
+            Planes::One(_) => unreachable!(),
+            Planes::Four(inks) => inks.pass(row, last),
         }
     }
 
@@ -135,17 +164,49 @@ impl<'a> Inks<'a> {
         magenta: &mut [u8],
         yellow: &mut [u8],
         black: &mut [u8],
-    )
+    ) -> LastRow<'a>
         requires fits { FitInks row from cyan.old magenta.old yellow.old black.old }
         requires enough { (ink : ℕ) → ink < 4 → row ≤ length (slice_index_or (inks_of self.old) ink []) }
         ensures inks { TakeInks (inks_of self.old) from cyan.old magenta.old yellow.old black.old
             cyan.new magenta.new yellow.new black.new }
         ensures left { inks_of self.new ≡ map (drop row) (inks_of self.old) }
+        ensures known { AreFirst row (inks_of self.old) result }
     {
-        self.cyan.part(row, from, cyan);
-        self.magenta.part(row, from, magenta);
-        self.yellow.part(row, from, yellow);
-        self.black.part(row, from, black);
+        LastRow {
+            cyan: self.cyan.read(row, from, cyan),
+            magenta: self.magenta.read(row, from, magenta),
+            yellow: self.yellow.read(row, from, yellow),
+            black: self.black.read(row, from, black),
+        }
+    }
+
+    // Returns true only if the next row is a known one in each ink that is known, which black is, and the
+    // colours if `colour`.
+    fn have_next(&self, colour: bool, last: &LastRow<'_>) -> bool
+        ensures { IsTrue result → AreNext colour (inks_of self.now) last.now }
+    {
+        if !self.black.has_next(&last.black, true) {
+            return false;
+        }
+        if !self.cyan.has_next(&last.cyan, colour) {
+            return false;
+        }
+        if !self.magenta.has_next(&last.magenta, colour) {
+            return false;
+        }
+        self.yellow.has_next(&last.yellow, colour)
+    }
+
+    // Skips the next row, which has `row` pixels, at once where it equals the known one.
+    fn pass(&mut self, row: usize, last: &LastRow<'_>)
+        requires long { AreLong row last.now }
+        requires enough { (ink : ℕ) → ink < 4 → row ≤ length (slice_index_or (inks_of self.old) ink []) }
+        ensures left { inks_of self.new ≡ map (drop row) (inks_of self.old) }
+    {
+        self.cyan.pass(row, &last.cyan);
+        self.magenta.pass(row, &last.magenta);
+        self.yellow.pass(row, &last.yellow);
+        self.black.pass(row, &last.black);
     }
 
     // Skips the next `width` pixels.

@@ -1,4 +1,5 @@
 // The rows of an image in order.
+use crate::last_row::LastRow;
 use crate::place::Place;
 use crate::strip_table::StripTable;
 use pr_base::row_bytes;
@@ -10,6 +11,8 @@ use std::marker::Model;
 pub struct RowCursor<'a> {
     table: StripTable<'a>,
     place: Place<'a>,
+    /// The row before the next one, where it is known.
+    last: LastRow<'a>,
 }
 
 impl<'a> Model for RowCursor<'a> {
@@ -18,15 +21,17 @@ impl<'a> Model for RowCursor<'a> {
 
     ghost Value = { Cursor };
 
+    ghost use Rattle.tif_strips.specs.Again.{AreAbove};
     ghost use Rattle.tif_strips.specs.Place.{IsPlace};
 
     ghost view = { λ c. record { shape = c.table.shape; bytes = c.table.bytes; next = c.place.next } };
 
-    ghost invariant = { λ c. IsPlace c.table c.place };
+    ghost invariant = { λ c. IsPlace c.table c.place × AreAbove c.table c.place.next c.last };
 }
 
 impl<'a> RowCursor<'a> {
-    ghost use Rattle.std.specs.Prelude.{◌≡◌, ◌+◌, ◌-◌, ◌<◌, ◌≤◌, ◌↔◌, IsTrue, length, None};
+    ghost use Rattle.std.specs.Prelude.{◌≡◌, ◌+◌, ◌-◌, ◌<◌, ◌≤◌, ◌↔◌, IsTrue, false, length, None};
+    ghost use Rattle.tif_strips.specs.Again.{ComesAgain};
     ghost use Rattle.tif_strips.specs.Strips.{IsStriped, image_part, image_row, ink_part, part_length};
     ghost use Rattle.tif_strips.specs.Strips.{planes, row_length, strip_fault};
 
@@ -37,7 +42,11 @@ impl<'a> RowCursor<'a> {
         ensures { result ≡ record { shape = table.entry.shape; bytes = table.entry.bytes; next = 0 } }
     {
         let place = Place::top(&table);
-        RowCursor { table, place }
+        RowCursor {
+            table,
+            place,
+            last: LastRow::none(),
+        }
     }
 
     /// Returns the number of rows still to come.
@@ -57,6 +66,7 @@ impl<'a> RowCursor<'a> {
     {
         let width = self.table.shape().width;
         self.place.read(&self.table, 0, width, into);
+        self.last = LastRow::none();
     }
 
     /// Returns the number of bytes in a row that contain `count` columns from `first` on: four per pixel
@@ -82,6 +92,7 @@ impl<'a> RowCursor<'a> {
         ensures next { self.new ≡ record self.old { next = self.old.next + 1 } }
     {
         self.place.read(&self.table, first, count, into);
+        self.last = LastRow::none();
     }
 
     /// Returns whether each ink of a contone image has its own plane.
@@ -117,8 +128,22 @@ impl<'a> RowCursor<'a> {
             ≡ ink_part self.old.shape self.old.bytes self.old.next 3 first (length black.old) }
         ensures next { self.new ≡ record self.old { next = self.old.next + 1 } }
     {
-        self.place
+        self.last = self
+            .place
             .read_inks(&self.table, first, cyan, magenta, yellow, black);
+    }
+
+    /// Skips the next row and returns true, if it is known to equal the row above it: in black, and in the
+    /// colours if `colour`. Known are rows that `next_planes` read whole, of the same strip and packed alike;
+    /// only their packed bytes are compared. Otherwise nothing changes.
+    pub fn pass_again(&mut self, colour: bool) -> bool
+        requires planes { planes self.old.shape ≡ 4 }
+        ensures again { IsTrue result → ComesAgain self.old.shape self.old.bytes colour self.old.next }
+        ensures left { IsTrue result → self.old.next < self.old.shape.length }
+        ensures next { IsTrue result → self.new ≡ record self.old { next = self.old.next + 1 } }
+        ensures kept { result ≡ false → self.new ≡ self.old }
+    {
+        self.place.pass_again(&self.table, colour, &self.last)
     }
 
     /// Skips the next `count` rows. Strips that end among them are not read any further, except a last strip
@@ -128,5 +153,6 @@ impl<'a> RowCursor<'a> {
         ensures next { self.new ≡ record self.old { next = self.old.next + count } }
     {
         self.place.skip(&self.table, count);
+        self.last = LastRow::none();
     }
 }

@@ -2,7 +2,8 @@
 use Rattle.std.proofs.Common.{◌≡◌, ◌<◌, ◌++◌, length, take, drop, ℕ, ◌+◌, ◌-◌, ◌≤◌, List, [], ◌∷◌, get_or, replicate, arith, refl, sym, ap, ◌∙◌}
 use Rattle.std.proofs.lemmas.List.{take_rest}
 use Rattle.tif_packbits.specs.Packbits.{expansion}
-use Rattle.tif_packbits.proofs.Expansion.{expansion-nil, expansion-literal, expansion-cut, expansion-nothing, expansion-headless, expansion-repeat}
+use Rattle.tif_packbits.proofs.Expansion.{expansion-nil, expansion-literal, expansion-cut, expansion-nothing, expansion-headless, expansion-none, expansion-repeat}
+use Rattle.tif_packbits.proofs.Wholes.{alike-literal, alike-nothing, alike-repeat}
 use Rattle.tif_packbits.proofs.packet.first_packet.Goals as goal
 
 literal : (packed : List ℕ) → 0 < length packed → get_or packed 0 0 < 128 → get_or packed 0 0 + 1 ≤ length (drop 1 packed) → expansion packed ≡ take (get_or packed 0 0 + 1) (drop 1 packed) ++ expansion (drop (get_or packed 0 0 + 1) (drop 1 packed))
@@ -47,3 +48,26 @@ returns-in-empty-clause-whole c =
 pub returns-in-len1-up-clause-whole : goal.returns-in-len1-up-clause-whole
 returns-in-len1-up-clause-whole c =
     simp take_rest (repeat c.args.packed.now (omega arith) (simp take_rest at c.in-len1-up.len_at_least))
+
+pub returns-then-len-data-clause-alike : goal.returns-then-len-data-clause-alike
+returns-then-len-data-clause-alike c = λ some other.
+    simp take_rest (alike-literal c.args.packed.now other c.requires c.if-header-lt-NOTHING.true (simp take_rest at c.if-len-data.true))
+
+pub returns-else-len-data-clause-alike : goal.returns-else-len-data-clause-alike
+returns-else-len-data-clause-alike c = λ some other.
+    (let none : length (expansion c.args.packed.now) ≡ 0 = ap length (cut c.args.packed.now c.requires c.if-header-lt-NOTHING.true (simp take_rest at c.if-len-data.false) ∙ expansion-nil) in
+    absurd (omega arith))
+
+pub returns-then-header-clause-alike : goal.returns-then-header-clause-alike
+returns-then-header-clause-alike c = λ some other.
+    alike-nothing c.args.packed.now c.past_nothings.result.now other c.requires c.if-header.true (simp take_rest at c.past_nothings.ensures.past)
+
+pub returns-in-empty-clause-alike : goal.returns-in-empty-clause-alike
+returns-in-empty-clause-alike c = λ some other.
+    (let short : length (drop 1 c.args.packed.now) < 1 = simp take_rest at c.in-empty.len_below in
+    let none : length (expansion c.args.packed.now) ≡ 0 = ap length (headless c.args.packed.now c.requires (omega arith) short ∙ expansion-none (drop 1 c.args.packed.now) (omega arith)) in
+    absurd (omega arith))
+
+pub returns-in-len1-up-clause-alike : goal.returns-in-len1-up-clause-alike
+returns-in-len1-up-clause-alike c = λ some other.
+    simp take_rest (alike-repeat c.args.packed.now other (omega arith) (simp take_rest at c.in-len1-up.len_at_least))

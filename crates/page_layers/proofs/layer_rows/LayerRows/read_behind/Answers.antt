@@ -5,7 +5,7 @@ use Rattle.page_layers.specs.Reader.{Holds}
 use Rattle.page_layers.specs.Rows.{LayerState, with_fixed}
 use Rattle.page_layers.proofs.Layers.{IsLayerRows-next, IsOf-row, crop_rows, mask_columns, mask_most, mask_row, most_span, rows_before, scaled_below, span_columns}
 use Rattle.page_layers.proofs.Slices.{written}
-use Rattle.page_layers.proofs.layer_rows.LayerRows.stand_behind.Goals as goal
+use Rattle.page_layers.proofs.layer_rows.LayerRows.read_behind.Goals as goal
 
 pub reach_mask-requires-clause-columns : goal.reach_mask-requires-clause-columns
 reach_mask-requires-clause-columns c = λ reader there.
