@@ -95,9 +95,17 @@ def refused():
         "progressive JPEG": (pictured(jpeg(progressive=True)[:-300]), "damaged", f"the picture I of the page{end}"),
         "JPEG of its head alone": (pictured(jpeg()[:300]), "damaged", f"the picture I of the page{end}"),
         "JPEG with a preview": (pictured(with_preview(cut["RGB"])), "damaged", f"the picture I of the page{end}"),
+        "progressive JPEG, ended": (
+            pictured(jpeg(progressive=True)[:-300] + b"\xff\xd9"), "damaged", "of the page is a JPEG file without its last rows$",
+        ),
     }  # fmt: skip
+    rows = r" is a JPEG file without its last rows$"
     for name, data in cut.items():
         found[f"JPEG in {name}"] = pictured(data, spaces[name]), "damaged", f"the picture I of the page{end}"
+        ended = data.rstrip(b"\xff") + b"\xff\xd9"
+        found[f"JPEG in {name}, ended"] = (
+            pictured(ended, spaces[name]), "damaged", f"the picture I of the page{rows}",
+        )  # fmt: skip
     places = {
         "inline": "an inline picture of the page",
         "form": "the picture I of the form F", "soft mask": "the mask of the picture O of the page",
@@ -105,6 +113,7 @@ def refused():
     }  # fmt: skip
     for where, named in places.items():
         found[f"JPEG in a {where}"] = within(cut["grey"], where), "damaged", named + end
+        found[f"JPEG in a {where}, ended"] = within(cut["grey"] + b"\xff\xd9", where), "damaged", named + rows
     return found
 
 
@@ -152,6 +161,7 @@ def accepted():
         "progressive JPEG": pictured(jpeg(progressive=True), notes=("rgb",)),
         "JPEG with bytes after its end": pictured(jpeg() + b"\n\0\0", notes=("rgb",)),
         "grey JPEG in a form": within(grey, "form"),
+        "JPEG that ends in grey": pictured(coded("JPEG", b"\x80" * 64 * 64, "L", 64), "/DeviceGray"),
         "alpha within JPEG 2000": Sheet(
             {"half black": (PICTURE, four)},
             {"picture": image_of(alpha, "/JPXDecode", "", keys="/SMaskInData 1")}, "/XObject << /I {picture} >>",

@@ -18,6 +18,7 @@ from pressroom import __version__
 from pressroom.house.house import House
 from pressroom.intake import state
 from pressroom.intake.pages import Names
+from pressroom.intake.second import PROGRAM as SECOND
 from pressroom.night import pair_plans, toml_keys
 from pressroom.night.night_keys import Deadline, NightHouse, house_of
 from pressroom.night.ready import complete_text, ready_text
@@ -34,6 +35,7 @@ __all__ = [
     "place_of",
     "planned",
     "ready_text",
+    "version_of",
     "whole_plan",
 ]
 KEYS = ("date", "sections", "zones", "blank")
@@ -205,24 +207,35 @@ def pair_pages(
     return first, second
 
 
+def named(house: NightHouse, edition: Planned, name: bytes) -> tuple[PageKey | None, int]:
+    """Returns the page and the version in a file's name, by its path below the edition's folder: None and 0 for a
+    stray, 0 where the house's pattern has no version."""
+    try:
+        text = name.decode("utf-8")
+    except UnicodeDecodeError:
+        return None, 0
+    zone, _, rest = text.rpartition("/")
+    if kind_of(name) is None:
+        return None, 0
+    names = Names(replace(house.house, sections=edition.sections))
+    found, version = names.read(os.path.splitext(rest)[0], zone or None)
+    if found is None:
+        return None, 0
+    return PageKey(zone, found.section, found.page), version
+
+
 def place_of(house: NightHouse, edition: Planned, name: bytes) -> PageKey | None:
     """Returns the planned page that a file is for, by its path below the edition's folder; None for a stray.
 
     A page that is planned blank takes no file.
     """
-    try:
-        text = name.decode("utf-8")
-    except UnicodeDecodeError:
-        return None
-    zone, _, rest = text.rpartition("/")
-    if kind_of(name) is None:
-        return None
-    names = Names(replace(house.house, sections=edition.sections))
-    found, _ = names.read(os.path.splitext(rest)[0], zone or None)
-    if found is None:
-        return None
-    key = PageKey(zone, found.section, found.page)
+    key, _ = named(house, edition, name)
     return key if any(page.key == key and not page.blank for page in edition.pages) else None
+
+
+def version_of(house: NightHouse, edition: Planned, name: bytes) -> int:
+    """Returns the version in a file's name, by its path below the edition's folder; 0 if it has none."""
+    return named(house, edition, name)[1]
 
 
 def method(house: NightHouse, site: str) -> dict[str, Any] | None:
@@ -266,20 +279,24 @@ def making(house: House, press: str, section: str, number: int, program: str) ->
 
 
 def settings(house: House) -> str:
-    """Returns the sum of all that a render depends on besides its page."""
-    found: str = state.settings(house, versions())
+    """Returns the sum of all that a render depends on besides its page. What the second opinion found is kept with the
+    render, so its program counts where the house asks for it."""
+    is_asked = house.check.second != "off" and shutil.which(SECOND)
+    found: str = state.settings(house, versions() + (version(SECOND) if is_asked else ""))
     return found
 
 
-@functools.cache
 def versions() -> str:
     """Returns what the programs that render pages say of their versions; raises OSError if one is missing."""
-    found = []
-    for program in RENDERERS:
-        words = [program, "--version"] if program in ("gs", "qpdf") else [program, "-v"]
-        answer = subprocess.run(words, stdin=subprocess.DEVNULL, capture_output=True, check=False)
-        found.append((answer.stdout or answer.stderr).decode("utf-8", "replace"))
-    return "\n".join(found)
+    return "\n".join(map(version, RENDERERS))
+
+
+@functools.cache
+def version(program: str) -> str:
+    """Returns what a program says of its version; raises OSError if it is missing."""
+    words = [program, "--version"] if program in ("gs", "qpdf") else [program, "-v"]
+    answer = subprocess.run(words, stdin=subprocess.DEVNULL, capture_output=True, check=False)
+    return (answer.stdout or answer.stderr).decode("utf-8", "replace")
 
 
 def program_sum() -> str:

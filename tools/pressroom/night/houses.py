@@ -14,6 +14,7 @@ class Editions(Protocol):
     house_of: Callable[..., Any]
     planned: Callable[..., Planned]
     place_of: Callable[..., PageKey | None]
+    version_of: Callable[..., int]
     pair_plan: Callable[..., tuple[Plan, Plan]]
     whole_plan: Callable[..., Plan]
     method: Callable[..., dict[str, Any] | None]

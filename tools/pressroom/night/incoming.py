@@ -11,7 +11,7 @@ from typing import Any
 from pressroom.night import begin, clear, houses, pages, pauses, scan, take
 from pressroom.night.book import Book
 from pressroom.night.folders import Folders
-from pressroom.night.records import EDITION_FILE, Found, Taken, Unfit, shown
+from pressroom.night.records import EDITION_FILE, Found, PageKey, Taken, Unfit, shown
 
 OWN = b"edition.toml"
 
@@ -160,6 +160,11 @@ class Incoming:
         if page is None:
             pages.stray(self.book, edition, found)
             return
+        newer = self.newer(house, edition, page, name)
+        if newer is not None:
+            why = f"not used: {shown(newer)} has a higher version"
+            pages.unfit(self.book, Unfit(found.edition, found.name, found.stamp, why))
+            return
         job = self.folders.next_job(self.book.journal.epoch)
         try:
             os.mkdir(self.folders.path("making", job), 0o700)
@@ -168,6 +173,15 @@ class Incoming:
             return
         steps = take.copy(folder, found, self.folders.path("making", job, "page"), self.folders.path("store"))
         self.copying = Copying(folder, found, edition, page, job, steps)
+
+    def newer(self, house: Any, edition: int, page: PageKey, name: bytes) -> bytes | None:
+        """Returns the file of a page that has a higher version in its name than this one and isn't refused, or None."""
+        last = pages.in_force(self.book, edition, page)
+        if last is None:
+            return None
+        plan, version_of = houses.planned_of(self.book, edition), self.houses.editions.version_of
+        before = version_of(house, plan, last.partition(b"/")[2])
+        return last if before > version_of(house, plan, name) else None
 
     def copy_on(self, copying: Copying) -> None:
         """Copies the next chunk, and enters the page when it is in the store."""

@@ -35,6 +35,17 @@ def arrived(book: Book, edition: int, key: PageKey, found: Found, taken: Taken) 
     return is_new
 
 
+def in_force(book: Book, edition: int, key: PageKey) -> bytes | None:
+    """Returns the name of a page's newest arrival that isn't refused, or None."""
+    name = book.journal.value(
+        "SELECT a.name FROM place_now n JOIN arrival a ON a.id = n.arrival"
+        " WHERE n.edition = ? AND n.zone = ? AND n.section = ? AND n.number = ?",
+        edition,
+        *key,
+    )
+    return None if name is None else bytes(name)
+
+
 def stray(book: Book, edition: int, found: Found) -> None:
     """Enters a file that isn't a page of its edition, which is told once."""
     with book.journal.transaction():

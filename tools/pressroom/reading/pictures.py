@@ -1,16 +1,16 @@
 """Tests a page's pictures, and changes those that Ghostscript 10.00 paints wrong.
 
-A JPEG file must have its end (ITU-T T.81, B.1.1.2). Grey JPEG 2000 without a colour space is DeviceGray, and its own
+A JPEG file must have its end and all of its rows. Grey JPEG 2000 without a colour space is DeviceGray, and its own
 alpha becomes a soft mask (ISO 32000-1, 7.4.9 and 11.6.5.3). RGB pictures in luminosity masks become grey.
 """
 import io
-import re
 from dataclasses import dataclass
 from typing import TYPE_CHECKING
 
 import pikepdf
 from PIL import Image
 
+from pressroom.reading.jpeg import lack_of
 from pressroom.reading.objects import Unreadable, copied, get, is_array, name, number, pairs
 from pressroom.reading.spaces import LUMINOSITY, Space
 
@@ -19,11 +19,7 @@ if TYPE_CHECKING:
     from numpy.typing import NDArray
 
 JPEG, JPEG_2000 = b"/DCTDecode", b"/JPXDecode"
-# A marker that ends a scan: not a byte of the scan, nor a restart.
-MARKER = re.compile(rb"\xff[^\x00\xff\xd0-\xd7]", re.DOTALL)
-START, END, SCAN = 0xD8, 0xD9, 0xDA
 GREY, CMYK = 17, 12
-Image.MAX_IMAGE_PIXELS = None
 
 
 def filters(picture: pikepdf.Object) -> list[bytes]:
@@ -43,23 +39,6 @@ def coded(pdf: pikepdf.Pdf, picture: pikepdf.Object) -> bytes:
         Filter=pikepdf.Array([pikepdf.Name(word.decode()) for word in first])
     )
     return bytes(inner.read_bytes())
-
-
-def is_cut(data: bytes) -> bool:
-    """Returns whether a JPEG file has no end, and can't be decoded to its last row."""
-    at = 0
-    while (found := MARKER.search(data, at)) is not None:
-        marker, at = data[found.start() + 1], found.end()
-        if marker == END:
-            return False
-        if marker not in (START, 1):
-            at += int.from_bytes(data[at : at + 2], "big")
-    try:
-        with Image.open(io.BytesIO(data)) as image:
-            image.load()
-    except (OSError, SyntaxError, ValueError):
-        return True
-    return False
 
 
 @dataclass(frozen=True)
@@ -106,8 +85,8 @@ def jpeg_2000(data: bytes) -> Jpeg2000:
 
 def see_jpeg(pdf: pikepdf.Pdf, picture: pikepdf.Object, where: str) -> None:
     """Refuses a JPEG picture that is cut off."""
-    if is_cut(coded(pdf, picture)):
-        raise Unreadable("damaged", f"damaged: {where} is a JPEG file without its end")
+    if lack := lack_of(coded(pdf, picture)):
+        raise Unreadable("damaged", f"damaged: {where} is a JPEG file without {lack}")
 
 
 def untagged_2000(pdf: pikepdf.Pdf, picture: pikepdf.Object, where: str) -> pikepdf.Object:

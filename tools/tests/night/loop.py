@@ -53,10 +53,14 @@ class Editions(evening.Texts):
         return Planned(name, day, {"A": 4}, tuple(pages), tuple(sites), tuple(pairs), "S", house.ask, "pair")
 
     def place_of(self, house: Any, planned: Planned, name: bytes) -> PageKey | None:
-        found = re.fullmatch(rb"(?:(west)/)?A0([1-4])\.pdf", name)
+        found = re.fullmatch(rb"(?:(west)/)?A0([1-4])(?:_v[0-9]+)?\.pdf", name)
         if found is None or found[1] and found[2] != b"2":
             return None
         return PageKey((found[1] or b"").decode(), "A", int(found[2]))
+
+    def version_of(self, house: Any, planned: Planned, name: bytes) -> int:
+        found = re.search(rb"_v([0-9]+)", name)
+        return int(found[1]) if found else 0
 
     def pair_plan(self, house: Any, planned: Planned, pair: Pair, left: Any, right: Any) -> Any:
         names = [one and one.layers[0]["file"] for one in (left, right)]

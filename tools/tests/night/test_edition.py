@@ -1,5 +1,6 @@
 """What is planned from a house file and an edition's own file; the texts of READY and COMPLETE."""
 import hashlib
+import os
 from dataclasses import replace
 from typing import Any
 
@@ -313,6 +314,32 @@ def test_the_place_of_a_file_by_the_house_s_pattern() -> None:
     plan = planned(of=other)
     assert edition.place_of(house(other), plan, b"2026_A-07_final.pdf") == PageKey("", "A", 7)
     assert edition.place_of(house(other), plan, b"A07.pdf") is None
+
+
+def test_the_version_of_a_file_by_the_house_s_pattern() -> None:
+    other = HOUSE.replace("gutter = 3", 'gutter = 3\nnames = "{section}{page}_v{version}"')
+    plan = planned(of=other)
+    for name, version in ((b"A07_v12.pdf", 12), (b"A07.pdf", 0), (b"x_v3.pdf", 0), (b"A07_v\xff.pdf", 0)):
+        assert edition.version_of(house(other), plan, name) == version
+    assert edition.version_of(house(), planned(), b"A07.pdf") == 0
+
+
+def test_the_second_program_counts_where_a_house_asks_for_it(
+    tmp_path: Any, monkeypatch: pytest.MonkeyPatch
+) -> None:
+    program = tmp_path / "mutool"
+    monkeypatch.setenv("PATH", f"{tmp_path}:{os.environ['PATH']}")
+    sums = {}
+    for version in ("1.21.1", "1.22.0"):
+        program.write_text(f"#!/bin/sh\necho mutool version {version} >&2\n")
+        program.chmod(0o755)
+        for rule in ("off", "note"):
+            edition.version.cache_clear()
+            text = HOUSE.replace("[sections]", f'[check]\nsecond = "{rule}"\n[sections]', 1)
+            sums[rule, version] = edition.settings(house(text).house)
+    edition.version.cache_clear()
+    assert sums["off", "1.21.1"] == sums["off", "1.22.0"]
+    assert sums["note", "1.21.1"] != sums["note", "1.22.0"]
 
 
 # ---- the way to a site

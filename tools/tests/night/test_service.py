@@ -162,6 +162,33 @@ def test_what_isnt_a_page_is_told_once_and_stops_nothing(world):
     assert any("A01: accepted" in line for line in lines)
 
 
+def in_force(world):
+    return bytes(world.value("SELECT a.name FROM place_now n JOIN arrival a ON a.id = n.arrival")).decode()
+
+
+def test_the_highest_version_in_names_prints_whenever_it_came(world):
+    for name, text in (("A01_v9", "nine"), ("A01_v10", "ten"), ("A01_v2", "two"), ("A01", "none")):
+        world.put(f"{name}.pdf", f"%PDF-{text}")
+        world.rounds(10)
+    told = [line for line in world.lines() if "not used" in line]
+    assert in_force(world) == "MON/A01_v10.pdf" and len(told) == 2
+    assert "A01_v2.pdf: not used: MON/A01_v10.pdf has a higher version" in told[0]
+    world.put("A01_v10.pdf", "%PDF-ten again")
+    world.rounds(10)
+    assert world.value("SELECT count(*) FROM arrival") == 3 and in_force(world) == "MON/A01_v10.pdf"
+    world.put("A01_v11.pdf", "%PDF-eleven")
+    world.rounds(10)
+    assert in_force(world) == "MON/A01_v11.pdf"
+
+
+def test_a_version_that_is_refused_stops_no_lower_one(world):
+    for name, text in (("A01_v1", "one"), ("A01_v3", "bad"), ("A01_v2", "two")):
+        world.put(f"{name}.pdf", f"%PDF-{text}")
+        world.rounds(10)
+    assert in_force(world) == "MON/A01_v2.pdf"
+    assert not any("not used" in line for line in world.lines())
+
+
 def test_pages_for_another_date_are_refused_by_name(world):
     world.put("A01.pdf", "%PDF-A01 first")
     world.rounds(10)
