@@ -26,9 +26,9 @@ def clean(text: str) -> str:
     return text[:MOST_TEXT] if text.isprintable() else shown(text)
 
 
-def seconds(answer: dict[str, Any]) -> float:
-    """Returns the seconds that a job took, as it says."""
-    value = answer.get("seconds", 0.0)
+def seconds(answer: dict[str, Any], key: str = "seconds") -> float:
+    """Returns the seconds that a job took, as it says, or a part of it."""
+    value = answer.get(key, 0.0)
     return float(value) if isinstance(value, (int, float)) and math.isfinite(value) and value >= 0 else 0.0
 
 

@@ -25,6 +25,7 @@ class Copying:
     edition: int
     page: Any
     job: str
+    began: float  # by the seconds since the boot
     steps: Generator[None, None, Taken]
 
 
@@ -172,7 +173,7 @@ class Incoming:
             self.wait(found, error)
             return
         steps = take.copy(folder, found, self.folders.path("making", job, "page"), self.folders.path("store"))
-        self.copying = Copying(folder, found, edition, page, job, steps)
+        self.copying = Copying(folder, found, edition, page, job, self.book.uptime(), steps)
 
     def newer(self, house: Any, edition: int, page: PageKey, name: bytes) -> bytes | None:
         """Returns the file of a page that has a higher version in its name than this one and isn't refused, or None."""
@@ -190,7 +191,9 @@ class Incoming:
             return
         except StopIteration as end:
             taken: Taken = end.value
-            pages.arrived(self.book, copying.edition, copying.page, copying.found, taken)
+            seen = self.quiet.get(copying.found.stamp, copying.began)
+            times = copying.began - seen, self.book.uptime() - copying.began
+            pages.arrived(self.book, copying.edition, copying.page, copying.found, taken, *times)
             self.clear(copying.folder, copying.found)
         except take.Changed:
             pass

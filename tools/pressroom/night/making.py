@@ -35,8 +35,10 @@ def made(
     plates: Mapping[str, str],
     empty: Sequence[str],
     seconds: float,
+    verify: float = 0.0,
 ) -> None:
-    """Enters plates that were verified and are synced in plates/`folder`."""
+    """Enters plates that were verified and are synced in plates/`folder`: within `seconds`, of which their
+    verification took `verify`."""
     with book.journal.transaction() as db:
         row = db.execute(
             "INSERT INTO plates (left, right, making, folder, sums, seconds, at) VALUES (?, ?, ?, ?, ?, ?, ?)",
@@ -55,6 +57,7 @@ def made(
                 sums=sums,
                 plates=len(plates),
                 seconds=seconds,
+                verify=verify,
                 shared=sites,
             )
         for number in dict.fromkeys(number for number, *_ in some):

@@ -169,8 +169,10 @@ def fault_of(status: int, note: bytes) -> Ended:
         why = "the site's host key " + ("has changed" if CHANGED_KEY in text else "isn't known")
         network = True
     else:
-        why, network = STATUSES.get(status, (f"rsync ended with status {status}", True))
         line = next((line for line in text.split("\n") if line.strip(" @")), "")
+        # Where ssh ends before rsync wrote to it, rsync's status is that of a broken pipe.
+        told = 255 if status == 12 and line.startswith("ssh: ") else status
+        why, network = STATUSES.get(told, (f"rsync ended with status {status}", True))
         why += f": {line}" if line else ""
     # With status 1 nothing was begun.
     fault = Ended(why, network=network, host_key=host_key, begun=status != 1)

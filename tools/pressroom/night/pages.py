@@ -16,8 +16,19 @@ def is_seen(book: Book, stamp: str) -> bool:
     return book.journal.value("SELECT 1 FROM look_in WHERE stamp = ?", stamp) is not None
 
 
-def arrived(book: Book, edition: int, key: PageKey, found: Found, taken: Taken) -> bool:
-    """Enters a file that is in the store. The bytes of the newest arrival are no new one. Returns whether it is new."""
+def arrived(
+    book: Book,
+    edition: int,
+    key: PageKey,
+    found: Found,
+    taken: Taken,
+    waited: float = 0.0,
+    seconds: float = 0.0,
+) -> bool:
+    """Enters a file that is in the store. The bytes of the newest arrival are no new one. Returns whether it is new.
+
+    It `waited` so many seconds since it was first seen, and was copied within `seconds` more.
+    """
     name, where = book.edition_name(edition), shown(found.name)
     with book.journal.transaction() as db:
         place = book.journal.value(f"SELECT id FROM place WHERE edition = ? AND {WHERE}", edition, *key)
@@ -29,7 +40,8 @@ def arrived(book: Book, edition: int, key: PageKey, found: Found, taken: Taken) 
             values = [place, taken.sha, found.name, book.now()]
             db.execute("INSERT INTO arrival (place, sha, name, at) VALUES (?, ?, ?, ?)", values)
         about = {"edition": name, "page": str(key), "file": where, "sha": taken.sha}
-        book.tell("arrived" if is_new else "same", **about, bytes=taken.size)
+        times = {"waited": round(waited, 3), "seconds": round(seconds, 3)}
+        book.tell("arrived" if is_new else "same", **about, bytes=taken.size, **times)
         pauses.clear(book, "take", found.stamp, edition=name)
         due.settle(book, edition)
     return is_new

@@ -65,7 +65,9 @@ def made(blank: Plan, plan: Plan, files: str, out: str, folder: str) -> dict[str
         if name not in wanted or not os.path.exists(source):
             source = blanks.get(name[-len("K.tif") :], source)
         os.link(source, os.path.join(whole_folder, site, name))
+    begun = time.monotonic()
     verified(plans[1], files, whole_folder)
+    verify = round(time.monotonic() - begun, 2)
     os.makedirs(out, exist_ok=True)
     for name in wanted:
         os.rename(os.path.join(whole_folder, site, name), os.path.join(out, name))
@@ -74,7 +76,7 @@ def made(blank: Plan, plan: Plan, files: str, out: str, folder: str) -> dict[str
     write_synced(os.path.join(out, SUMS), text)
     sync_folder(out)
     empty = [name for name in wanted if is_empty(os.path.join(out, name))]
-    return {"made": sums, "empty": empty, "sums": hashlib.sha256(text).hexdigest()}
+    return {"made": sums, "empty": empty, "sums": hashlib.sha256(text).hexdigest(), "verify": verify}
 
 
 def names_of(plan: Plan) -> list[str]:

@@ -150,7 +150,8 @@ class PlatesTask:
         answers.need(there == {*made, "SHA256SUMS"}, f"files {sorted(there)}")
         self.room.folders.settle(self.name, "plates")
         key = (self.work.left, self.work.right, self.work.making)
-        making.made(self.room.book, *key, self.name, sums, made, empty, answers.seconds(answer))
+        seconds = answers.seconds(answer), answers.seconds(answer, "verify")
+        making.made(self.room.book, *key, self.name, sums, made, empty, *seconds)
         return True
 
     def failed(self, why: str, limit: bool) -> None:
@@ -223,7 +224,7 @@ class SendTask:
         versions.sending(book, self.work.version)
         row = moves.get(book, self.work.version)
         if row["kind"] == "complete":
-            return self.leave(job)
+            return self.leave(job, 0.0)
         names = list(due.plates_of(book, row["plates"]))
         if row["kind"] == "resend":
             names = versions.words_of(row["ready"], "expose")
@@ -234,9 +235,9 @@ class SendTask:
         job.ask(self.request("plates", folder=row["folder"], source=source, names=names, sums=sums))
         return True
 
-    def leave(self, job: Job) -> bool:
-        """Takes the last step before READY. Returns whether the version may leave."""
-        if not versions.leaving(self.room.book, self.work.version):
+    def leave(self, job: Job, seconds: float) -> bool:
+        """Takes the last step before READY: the plates were sent in `seconds`. Returns whether the version may leave."""
+        if not versions.leaving(self.room.book, self.work.version, seconds):
             return False
         self.left = True
         row = moves.get(self.room.book, self.work.version)
@@ -251,8 +252,9 @@ class SendTask:
             )
             return True
         if not self.left:
-            return not self.leave(job)
-        versions.sent(self.room.book, self.work.version, kept=answer.get("kept") is True)
+            return not self.leave(job, answers.seconds(answer))
+        kept = answer.get("kept") is True
+        versions.sent(self.room.book, self.work.version, kept, answers.seconds(answer))
         return True
 
     def failed(self, why: str, limit: bool) -> None:

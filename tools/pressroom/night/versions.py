@@ -20,13 +20,14 @@ def sending(book: Book, number: int) -> None:
         move(book, get(book, number), "sending")
 
 
-def leaving(book: Book, number: int) -> bool:
-    """Takes the step after which only the site knows. Returns whether the version may leave; if not, it is queued."""
+def leaving(book: Book, number: int, seconds: float = 0.0) -> bool:
+    """Takes the step after which only the site knows, after its plates were sent within so many seconds. Returns
+    whether the version may leave; if not, it is queued."""
     row = get(book, number)
     try:
         with book.journal.transaction():
             move(book, row, "leaving")
-            tell(book, "leaving", row, since=row["since"])
+            tell(book, "leaving", row, since=row["since"], seconds=seconds)
     except sqlite3.IntegrityError as error:
         if "may not leave" not in str(error):
             raise
@@ -37,18 +38,19 @@ def leaving(book: Book, number: int) -> bool:
     return True
 
 
-def sent(book: Book, number: int, kept: bool = False) -> None:
-    """READY was seen at the site. `kept`: it was synced there by a method that can."""
+def sent(book: Book, number: int, kept: bool = False, seconds: float | None = None) -> None:
+    """READY was seen at the site, so many seconds after it began to be sent. `kept`: it was synced there by a method
+    that can."""
     row = get(book, number)
     with book.journal.transaction():
-        there(book, row)
+        there(book, row, seconds)
         if kept:
             keep(book, row)
         pauses.clear(book, "site", row["site_name"], site=row["site_name"])
         settle(book, row["edition"])
 
 
-def there(book: Book, row: sqlite3.Row) -> None:
+def there(book: Book, row: sqlite3.Row, seconds: float | None = None) -> None:
     """Notes that a version is at its site. What the site had of the pair is old, but for a resend's own version."""
     if row["kind"] != "resend":
         book.journal.db.execute(
@@ -58,13 +60,14 @@ def there(book: Book, row: sqlite3.Row) -> None:
         )
     move(book, row, "sent", book.uptime())
     if row["kind"] == "complete":
-        tell(book, "sent", row, whole=True, expose=[], empty=[])
+        tell(book, "sent", row, whole=True, expose=[], empty=[], seconds=seconds)
         pairs = row["list"].count("\n") + 1
         book.tell(
             "complete", edition=row["edition_name"], site=row["site_name"], version=row["id"], count=pairs
         )
         return
-    tell(book, "sent", row, expose=words_of(row["ready"], "expose"), empty=words_of(row["ready"], "empty"))
+    which = {word: words_of(row["ready"], word) for word in ("expose", "empty")}
+    tell(book, "sent", row, **which, seconds=seconds)
 
 
 def words_of(ready: str, word: str) -> list[str]:

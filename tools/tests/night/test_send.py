@@ -289,6 +289,16 @@ def test_the_statuses_are_those_of_rsync_s_manual() -> None:
     assert manual <= set(STATUSES)
 
 
+@pytest.mark.parametrize("status", [12, 255])
+def test_a_site_that_ssh_cant_reach_is_so_whichever_status_rsync_ends_with(
+    tmp_path: Path, monkeypatch: pytest.MonkeyPatch, status: int
+) -> None:
+    """rsync ends with 12 where ssh was gone before rsync wrote to it, and with ssh's 255 otherwise."""
+    line = "ssh: connect to host oslo port 22: Connection refused"
+    answer = rsync_site(tmp_path, monkeypatch, f"echo '{line}' >&2; exit {status}").plates()
+    assert answer == {"failed": f"ssh can't reach it: {line}", "network": True, "host_key": False}
+
+
 def test_a_rsync_that_is_killed_or_missing_is_the_machine_s_fault(
     tmp_path: Path, monkeypatch: pytest.MonkeyPatch
 ) -> None:
