@@ -1,12 +1,12 @@
 #!/usr/bin/env python3
 """Measures the CPU seconds a page of `pressroom intake`, by program, on tabloid pages of several kinds.
 
-usage: bench/intake.py FOLDER [--times N] [--tools TOOLS] [KIND ..]
+usage: bench/intake.py FOLDER [--times N] [--tools TOOLS] [--second RULE] [KIND ..]
 
 The pages are PDFs of 280 by 400 mm, rendered at 1016 dpi: 11,200 by 16,000 pixels. They are written to FOLDER
 with Ghostscript's pdfwrite unless they exist. Each is made N times (default: 3), one at a time, and the least
-CPU time counts. TOOLS is the folder `tools` of another clone to compare with. It needs the programs and
-libraries of intake.
+CPU time counts. TOOLS is the folder `tools` of another clone to compare with. RULE is that of the second opinion in
+the house file, which costs the difference between `off` and `note`. It needs the programs and libraries of intake.
 """
 import argparse
 import os
@@ -140,6 +140,7 @@ def main():
     parser.add_argument("kinds", metavar="KIND", nargs="*")
     parser.add_argument("--times", metavar="N", type=int, default=3)
     parser.add_argument("--tools", metavar="TOOLS", default=os.path.join(TOP, "tools"))
+    parser.add_argument("--second", metavar="RULE")
     words = parser.parse_args()
     sys.path.insert(0, words.tools)
     from pressroom.base import limits
@@ -152,7 +153,7 @@ def main():
     os.makedirs(folder, exist_ok=True)
     house = os.path.join(folder, "house.toml")
     with open(house, "w", encoding="utf-8") as file:
-        file.write(HOUSE)
+        file.write(HOUSE + (f'[check]\nsecond = "{words.second}"\n' if words.second else ""))
     watch = Watch(limits.Limits)
     for kind, body in kinds(folder).items():
         if words.kinds and kind not in words.kinds:

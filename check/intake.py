@@ -22,6 +22,7 @@ sys.dont_write_bytecode = True
 from intake_corpus import see_corpus
 from intake_ink import see_ink
 from intake_inks import see_bands, see_inks
+from intake_nested import see_nested
 from intake_notes import see_notes
 from intake_pages import HOUSE, Pages, events, fields, intake, missing_program, plates_of
 from intake_refused import see_words
@@ -549,6 +550,7 @@ def main():
             (see_strips, (results, folder)),
             (see_colours, (results, program, folder)),
             (see_ink, (results, folder)),
+            (see_nested, (results, folder)),
             (see_words, (results, folder)),
             (see_inks, (results, folder)),
             (see_bands, (results, program, folder)),

@@ -371,7 +371,7 @@ BLENDS = {
     ),
     "mask with a transfer function": Page(
         ((MASKED, (16, 0, 0, 0, 0)),), objects=(mask("0 0 0 .2 k", ""), INVERSE),
-        states="/M << /SMask << /S /Luminosity /G {0} 0 R /TR {1} 0 R >> >>", notes=(),
+        states="/M << /SMask << /S /Luminosity /G {0} 0 R /TR {1} 0 R >> >>", notes=("uncompared",),
     ),
 }  # fmt: skip
 HALFTONE = "/Type /Halftone /HalftoneType 1 /Frequency 60 /Angle 45 /SpotFunction /Round"

@@ -161,6 +161,7 @@ def accepted():
         "progressive JPEG": pictured(jpeg(progressive=True), notes=("rgb",)),
         "JPEG with bytes after its end": pictured(jpeg() + b"\n\0\0", notes=("rgb",)),
         "grey JPEG in a form": within(grey, "form"),
+        "alternates": alternates(),
         "JPEG that ends in grey": pictured(coded("JPEG", b"\x80" * 64 * 64, "L", 64), "/DeviceGray"),
         "alpha within JPEG 2000": Sheet(
             {"half black": (PICTURE, four)},
@@ -173,6 +174,17 @@ def accepted():
             notes=("rgb",),
         ),
     }  # fmt: skip
+
+
+def alternates():
+    """Returns a page of two pictures, one of which has another for print."""
+    names, objects = "", {"half": image(b"\x80" * 16, "/DeviceGray")}
+    for name, word in (("P", "true"), ("Q", "false")):
+        other = f"/Alternates [<< /Image {{half}} /DefaultForPrinting {word} >>]"
+        objects[name] = image(bytes(16), "/DeviceGray", keys=other)
+        names += f"/{name} {{{name}}} "
+    cells = {"for print": ("20 0 0 20 0 0 cm /P Do", (0, 0, 0, 50)), "for others": ("20 0 0 20 0 0 cm /Q Do", BLACK)}
+    return Sheet(cells, objects, f"/XObject << {names} >>")
 
 
 def four_inks():

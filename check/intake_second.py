@@ -16,6 +16,7 @@ from typing import TYPE_CHECKING, Any
 from intake_pages import PROFILE, Pages
 from newspaper import TOP
 from trial import Count as Results
+from second_rows import see_rows
 from second_pages import MAKERS, OVER, Sheet, write_pages
 
 sys.path.insert(0, os.path.join(TOP, "tools"))
@@ -243,6 +244,7 @@ def see_second(results: Results, folder: str) -> None:
     see_cases(results, folder)
     see_agreement(results, folder)
     see_rules(results, folder)
+    see_rows(results, folder)
 
 
 def main() -> None:

@@ -144,7 +144,7 @@ class Check:
     """What intake tests of a page besides what it refuses, `[check]`."""
 
     second: str = key(
-        one_of("note", "fault", "off"), "what becomes of a difference from a second rendering", "off"
+        one_of("note", "fault", "off"), "what becomes of a difference from a second rendering", "note"
     )
     ppi: float = key(
         number(0, 5000, "a resolution of 0 to 5000 pixels an inch"),

@@ -64,11 +64,14 @@ def scale_of(matrix: Matrix) -> float:
 
 @dataclass(frozen=True)
 class Font:
-    """A font: the advance of each code in thousandths of its size, that of all other codes, and the bytes of a code."""
+    """A font: the advance of each code in thousandths of its size, that of all other codes, the bytes of a code, and
+    whether its glyphs are content streams, which may have colours of their own.
+    """
 
     widths: dict[int, float] = field(default_factory=dict)
     other: float = 500.0
     each: int = 1
+    drawn: bool = False
 
     def advance(self, text: bytes) -> float:
         """Returns the advance of a text, for a size of 1."""

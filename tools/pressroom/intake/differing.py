@@ -6,8 +6,11 @@ differs where it leaves them by more than LEAST in a square of two by two blocks
 
 - Without RGB the bounds are the ink itself, of the four inks and of the house's spot.
 - Where RGB may show, black generation is the house's. There each of C, M and Y is compared together with K, and
-  the bounds span what the three ways to convert RGB give: C = 1 - R, the house's profile, and black alone.
+  the bounds span what the three ways to convert RGB give: C = 1 - R, the house's profile, and black alone. Where
+  something is transparent, too, they span what these ways give for any colour that is mixed with white.
 - Where a spot that is mixed is over other ink, the bounds span overprint and knockout.
+- A shading in tints isn't compared where mutool shows it in the four inks, or its spot is mixed.
+- Where spots that are mixed overlap, and may overprint, any more ink is within the bounds.
 """
 from __future__ import annotations
 
@@ -48,13 +51,16 @@ class Colours:
 
 @dataclass(frozen=True)
 class Shows:
-    """What a page shows of RGB: the place in millimetres, or None; whether there may be neutral text and line art,
-    whether all is blended in RGB, and what the house makes of RGB.
+    """What a page shows: the place of RGB in millimetres, or None; whether there may be neutral text and line
+    art, whether other colours are converted all over the page, whether something is transparent, whether a
+    shading is in tints of colorants, and what the house makes of RGB.
     """
 
     rgb: tuple[float, ...] | None
     neutral: bool
-    blended: bool
+    converted: bool
+    transparent: bool
+    tints: bool
     colours: Colours
 
 
@@ -110,12 +116,34 @@ def mix(second: Second, low: Array, high: Array, others: Array) -> None:
     np.copyto(high[:4], mixed, where=spot & bare)
     most = high[:4] + np.minimum(np.maximum(mixed, others), 255 - high[:4])
     np.copyto(high[:4], most, where=spot & ~bare)
+    several = sum((plane > NONE).astype(np.uint8) for plane in second.spots.values())
+    np.copyto(high[:4], 255, where=spot & (several > 1))
+    # The tint 0 of some spots has ink.
+    np.maximum(high[:4], mixed, out=high[:4], where=~spot & bare)
 
 
-def density_bounds(low: Array, high: Array, colours: Colours) -> tuple[Array, Array]:
+def shares(colours: Colours) -> tuple[Array, Array]:
+    """Returns for each of three inks the least and the most ink, together with black, that the house makes of
+    RGB, as a part of the ink of C = 1 - R.
+    """
+    import numpy as np
+
+    side = len(colours.profile)
+    steps = 255 * (1 - np.arange(side) / (side - 1))
+    found = []
+    for ink in range(3):
+        plain = np.moveaxis(np.broadcast_to(steps, (side, side, side)), 2, ink)
+        part = colours.profile[..., ink].astype(float) + colours.profile[..., 3]
+        found.append((part / np.maximum(plain, 1))[plain > 64])
+    least, most = (np.array([edge(part) for part in found]) for edge in (np.min, np.max))
+    return np.minimum(least, 1)[:, None, None], np.maximum(most, 1)[:, None, None]
+
+
+def density_bounds(low: Array, high: Array, shown: Shows) -> tuple[Array, Array]:
     """Returns the least and the most of each of three inks together with black, 0 to 255."""
     import numpy as np
 
+    colours = shown.colours
     least, most = (inks[:3] + np.minimum(inks[3], 255 - inks[:3]) for inks in (low, high))
     side = len(colours.blacks) - 1
     steps = ((255 - least.astype(int)) * side + 127) // 255
@@ -123,6 +151,9 @@ def density_bounds(low: Array, high: Array, colours: Colours) -> tuple[Array, Ar
     profile = profile[:3] + np.minimum(profile[3], 255 - profile[:3])
     neutral = most.max(axis=0) - least.min(axis=0) <= NEUTRAL
     black = np.where(neutral, colours.blacks[steps[0]], least)
+    if shown.transparent:
+        under, over = shares(colours)
+        least, most = least * under, np.minimum(most * over, 255)
     return np.minimum(np.minimum(least, profile), black), np.maximum(np.maximum(most, profile), black)
 
 
@@ -185,6 +216,14 @@ class Comparison:
         np.maximum(self.excess, (abs(ours - theirs) - self.passed) * (where & self.whole), out=self.excess)
         self.values[name] = ours, theirs
 
+    def tinted(self, spot: Array, second: Second, is_house: Callable[[bytes], bool]) -> Array:
+        """Returns which squares have more of the house's spot than the second rendering shows, or mixed spots."""
+        found: Array = squares(self.means[4]) - windows(spot, self.grid)[1] > self.passed
+        for name, plane in second.spots.items():
+            if not is_house(name):
+                found |= windows(plane, self.grid)[1] > NONE / 255
+        return found
+
     def areas(self) -> list[Area]:
         """Returns the areas that differ, the largest first."""
         found = sorted(connected(self.excess > 0), key=len, reverse=True)
@@ -242,13 +281,14 @@ def differing(
     found = Comparison(means, grid, dpi)
     shape = found.whole.shape
     low, high = ink_bounds(second, is_house, shown.colours if shown.neutral else None)
-    dense = np.ones(shape, bool) if shown.blended else inside(shown.rgb, grid, shape)
-    found.compare(NAMES[4], 4, low[4], high[4] if high is not low else low[4], np.ones(shape, bool))
+    dense = np.ones(shape, bool) if shown.converted else inside(shown.rgb, grid, shape)
+    kept = ~found.tinted(low[4], second, is_house) if shown.tints else np.ones(shape, bool)
+    found.compare(NAMES[4], 4, low[4], high[4] if high is not low else low[4], kept)
     if not dense.all():
         for ink in range(4):
-            found.compare(NAMES[ink], ink, low[ink], low[ink] if high is low else high[ink], ~dense)
+            found.compare(NAMES[ink], ink, low[ink], low[ink] if high is low else high[ink], kept & ~dense)
     if dense.any():
-        least, most = density_bounds(low, high, shown.colours)
+        least, most = density_bounds(low, high, shown)
         for ink in range(DENSITIES):
-            found.compare(NAMES[INKS + ink], INKS + ink, least[ink], most[ink], dense)
+            found.compare(NAMES[INKS + ink], INKS + ink, least[ink], most[ink], kept & dense)
     return found.areas()

@@ -32,7 +32,7 @@ from pressroom.house.house import HouseFault, read_house
 from pressroom.intake import bands, bitmaps, observed, pages, profiles, state
 from pressroom.intake.ghostscript import Ghostscript
 from pressroom.intake.layers import Made, Rendering
-from pressroom.intake.mixing import Mixing, mixing_of
+from pressroom.intake.mixing import INKED, RENAMED, Mixing, mixing_of
 from pressroom.intake.opinion import Opinion, Page
 from pressroom.intake.pdf import Inspected, Refused, inspect
 from pressroom.intake.separations import Spot
@@ -128,7 +128,7 @@ class Intake:
         if rgb:
             notes.append(("rgb", "RGB is converted", rgb))
         rendering = Rendering(self.house, gs, mixing)
-        page = self.compared(folder, copy, name, inspected, rgb, contents)
+        page = self.compared(copy, gs, inspected, rgb, contents, mixing)
         asked = self.opinion.asked(page, rendering.size[1])
         planes = len(inspected.spots - {"All"} if mixing.planes is None else mixing.planes)
         strips = inspected.may_be_painted(planes) and not contents.edited
@@ -154,14 +154,22 @@ class Intake:
         places = (rgb_of(call, inspected.millimetres(), spot) for call in calls)
         return next((place for place in places if place), None)
 
-    def compared(self, folder, came, edited, inspected, rgb, contents):
-        """Returns the page for its comparison with a second rendering: of the PDF that came, or of the edited one
-        if a layer prints otherwise than it shows on the screen, because mutool shows the screen's layers, or if
-        black was made to overprint.
+    def compared(
+        self,
+        came: str,
+        gs: Ghostscript,
+        inspected: Inspected,
+        rgb: tuple[float, ...] | None,
+        contents: observed.Contents,
+        mixing: Mixing,
+    ) -> Page:
+        """Returns the page for its comparison with a second rendering. That is of the PDF that came, or of the file that
+        Ghostscript renders, if a viewer shows the PDF otherwise than it prints, if black was made to overprint, or if
+        spots were renamed.
         """
-        name = edited if contents.print_layers or contents.edited else came
-        blended = contents.lab or any(kind == "blending" for kind, _ in inspected.notes)
-        return Page(folder, name, inspected, rgb, blended, self.house.dpi)
+        as_printed = inspected.otherwise or contents.edited or mixing.pdf in (INKED, RENAMED)
+        converted = contents.lab or bool(mixing.alternates & {"lab", "rgb"})
+        return Page(gs.folder, gs.pdf if as_printed else came, inspected, rgb, converted, self.house.dpi)
 
     def see_size(self, inspected):
         """Refuses a page whose trim differs from the house's by more than the tolerance."""

@@ -29,6 +29,8 @@ if TYPE_CHECKING:
 Place = tuple[float, ...]
 
 READER = os.path.join(os.path.dirname(os.path.abspath(__file__)), "colorants.py")
+# The copies of a PDF in which the house's spot has one name, and in which spots of several transforms have several.
+INKED, RENAMED = "inked.pdf", "renamed.pdf"
 # How many 255ths a mixture may differ from the sum of its inks, a table from another of the same spot, and how
 # many a mixed page may lack of a spot's ink.
 NEAR, EQUAL, LACKING = 3, 2, 8
@@ -179,9 +181,9 @@ class Reading:
         house mixes other spots, `overprints` whether something on the page may overprint.
         """
         gs = self.gs
-        answer = self.ask(gs.pdf, "inked.pdf", "tints.pdf" if mixed else None, [])
+        answer = self.ask(gs.pdf, INKED, "tints.pdf" if mixed else None, [])
         spaces = [[bytes.fromhex(name) for name in names] for names in answer["spaces"]]
-        pdf = "inked.pdf" if answer["changed"] else gs.pdf
+        pdf = INKED if answer["changed"] else gs.pdf
         functions = [str(name) for name in answer["transfers"]]
         used = {name for names in spaces for name in names}
         spots = {name for name in used if is_spot(name) and not self.is_house(name)}
@@ -231,7 +233,7 @@ class Reading:
                 uneven.append(Uneven(process, apart))
         pdf = made.pdf
         if renames:
-            pdf = "renamed.pdf"
+            pdf = RENAMED
             # The same file as before, whose colour spaces have the same numbers.
             self.ask(self.gs.pdf, pdf, None, renames)
         planes = tuple(sorted({*tables, *filter(self.is_house, used)}))

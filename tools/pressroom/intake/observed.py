@@ -37,15 +37,13 @@ EDITED = "black.pdf"
 @dataclass(frozen=True)
 class Contents:
     """What was observed, or why nothing could be; the edited copy of the PDF, if black was made to overprint in it;
-    whether something is in Lab, and whether a layer shows otherwise in
-    print than on the screen.
+    and whether something is in Lab.
     """
 
     found: tuple[Observation, ...] = ()
     why: str = ""
     edited: str = ""
     lab: bool = False
-    print_layers: bool = False
 
 
 def observe(limits: Limits, folder: str, pdf: str, box: Sequence[float], black: bool) -> Contents:
@@ -66,7 +64,7 @@ def observe(limits: Limits, folder: str, pdf: str, box: Sequence[float], black: 
         Observation(kind, (place[0], place[1], place[2], place[3]), tuple(values))
         for kind, place, values in answer["found"]
     )
-    return Contents(found, answer["why"], answer["edited"], answer["lab"], answer["print_layers"])
+    return Contents(found, answer["why"], answer["edited"], answer["lab"])
 
 
 def placed(box: Box, inspected: Inspected) -> tuple[float, ...]:
@@ -127,16 +125,6 @@ def is_on_colour(place: tuple[float, ...], seen: Any) -> bool:
     return bool(part.size) and float((part.max(axis=-1) >= INKED).mean()) >= 0.5
 
 
-def prints_otherwise(pdf: Any) -> bool:
-    """Returns whether a layer shows otherwise in print than on the screen."""
-    for layer in pdf.Root.get("/OCProperties", {}).get("/OCGs", []):
-        usage = layer.get("/Usage", {})
-        printed = str(usage.get("/Print", {}).get("/PrintState", ""))
-        if printed and printed != str(usage.get("/View", {}).get("/ViewState", "/ON")):
-            return True
-    return False
-
-
 def main() -> int:
     import pikepdf
 
@@ -156,7 +144,7 @@ def main() -> int:
         except TooLong:
             answer["why"] = "it has too many operators"
         answer |= {"found": [astuple(one) for one in walk.found[:MOST_FOUND]], "lab": walk.lab}
-        print(json.dumps(answer | {"print_layers": prints_otherwise(pdf)}))
+        print(json.dumps(answer))
     return 0
 
 

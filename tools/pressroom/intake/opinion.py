@@ -1,5 +1,5 @@
-"""The second opinion of one call of intake: what pages print is compared with what another program shows of the
-PDFs that came.
+"""The second opinion of one call of intake: what pages print is compared with what another program shows of their
+PDFs.
 
 Differences become notes, or faults if the house says so.
 """
@@ -17,7 +17,7 @@ from pressroom.intake.pdf import Inspected, Refused
 from pressroom.intake.second import PROGRAM, Unseen
 from pressroom.intake.shrunk import FILE, Asked
 
-KIND = "differs"
+KIND, UNCOMPARED = "differs", "uncompared"
 # The most areas of a page that are named.
 MOST = 4
 # A note: its kind, its text, and its place in millimetres or None.
@@ -27,14 +27,14 @@ Note = tuple[str, str, "tuple[float, ...] | None"]
 @dataclass(frozen=True)
 class Page:
     """A page that was rendered: the PDF to compare with, in a folder that has the means over blocks, what was found
-    in that PDF, where RGB shows, whether something is blended in RGB or is Lab, and the resolution.
+    in the page, where RGB shows, whether something else is converted, such as Lab, and the resolution.
     """
 
     folder: str
     pdf: str
     inspected: Inspected
     rgb: tuple[float, ...] | None
-    blended: bool
+    converted: bool
     dpi: int
 
 
@@ -64,15 +64,16 @@ class Opinion:
 
     def asked(self, page: Page, height: int) -> Asked | None:
         """Returns what means of the page's inks are needed. `height` is the page's in pixels."""
-        if not self.used:
+        if not self.used or page.inspected.unlike:
             return None
         grid = second.grid_of(page.inspected, height, page.dpi)
-        return Asked(grid, bool(page.rgb) or page.blended)
+        return Asked(grid, bool(page.rgb) or page.converted)
 
     def notes(self, page: Page, asked: Asked | None) -> list[Note]:
         """Returns notes on how the page differs. Raises Refused if the house wants a fault."""
         if asked is None:
-            return []
+            unlike = page.inspected.unlike if self.used else ()
+            return [(UNCOMPARED, f"not compared with {PROGRAM}: it can't show {what}", None) for what in unlike]
         found = self.found(page, asked)
         if found and self.rule == "fault":
             raise Refused(*found[0])
@@ -86,7 +87,14 @@ class Opinion:
             shown = second.render(self.limits, page.folder, page.pdf, asked.grid, self.is_house)
         except Unseen as error:
             return [(KIND, f"{PROGRAM} can't draw it: {error}", None)]
-        shows = Shows(page.rgb, page.inspected.rgb, page.blended, self.colours)
+        shows = Shows(
+            page.rgb,
+            page.inspected.rgb,
+            page.converted,
+            page.inspected.blends,
+            page.inspected.tints,
+            self.colours,
+        )
         areas = differing(means, asked.grid, page.dpi, shown, self.is_house, shows)
         notes: list[Note] = [(KIND, area.text(), area.place) for area in areas[:MOST]]
         if len(areas) > MOST:

@@ -36,7 +36,8 @@ class Inspected:
     """A page that can be rendered: its trim and crop boxes in points of the unrotated page, its rotation in
     degrees, which of the boxes is rendered, whether it may have RGB, whether it has Lab, whether it may have white
     text, its unit in points, whether something may be transparent or overprint, the names of its separations but the
-    four inks, a letter for each byte, and whether it may have transfer functions.
+    four inks, a letter for each byte, whether it may have transfer functions, whether a viewer shows it otherwise than it
+    prints, what mutool can't show, and whether it has a shading in tints of colorants.
     """
 
     trim: tuple[float, ...]
@@ -52,6 +53,9 @@ class Inspected:
     overprints: bool
     spots: frozenset[str]
     transfers: bool
+    otherwise: bool
+    unlike: tuple[str, ...]
+    tints: bool
 
     def may_be_painted(self, planes: int) -> bool:
         """Returns whether Ghostscript's library can paint this page in strips with the pixels of `psdcmyk`.
@@ -160,5 +164,6 @@ def inspect(limits: Limits, name: str, folder: str) -> tuple[str, Inspected]:
     box = "Trim" if page["trimmed"] else "Crop"
     shown = page["rgb"], page["lab"], page["white"], page["unit"]
     paints = page["blends"], page["overprints"], frozenset(page["spots"]), page["transfers"]
-    inspected = Inspected(trim, crop, page["turn"], box, tuple(notes), *shown, *paints)
+    viewed = page["otherwise"], tuple(page["unlike"]), page["tints"]
+    inspected = Inspected(trim, crop, page["turn"], box, tuple(notes), *shown, *paints, *viewed)
     return "edited.pdf" if page["edited"] else name, inspected

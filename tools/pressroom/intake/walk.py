@@ -298,7 +298,8 @@ class Content:
         matrix = times(self.text, state.matrix)
         box = box_of(matrix, 0, state.rise - 0.2 * state.size, advance, state.rise + 0.8 * state.size)
         self.text = times((1, 0, 0, 1, advance, 0), self.text)
-        if state.shows in (0, 2, 4, 6) and state.fill == BLACK and not is_over(state) and advance:
+        is_black = state.shows in (0, 2, 4, 6) and state.fill == BLACK and not state.font.drawn
+        if is_black and not is_over(state) and advance:
             self.walk.see(TEXT, box, state.clip)
 
 
@@ -354,7 +355,8 @@ def font_of(font: Any) -> Font:
         return Font()
     factor = 1000 * abs(float(font["/FontMatrix"][0])) if "/FontMatrix" in font else 1.0
     first = int(font.get("/FirstChar", 0))
-    return Font({first + at: float(width) * factor for at, width in enumerate(font["/Widths"])}, 0.0)
+    widths = {first + at: float(width) * factor for at, width in enumerate(font["/Widths"])}
+    return Font(widths, 0.0, drawn=font.get("/Subtype") == "/Type3")
 
 
 Call = Callable[[Content, "list[Any]"], None]

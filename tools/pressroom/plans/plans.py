@@ -153,7 +153,9 @@ def largest_part(plan: form.PlanForm, sizes: Mapping[str, int]) -> tuple[str, st
 
 def write(path: str, value: object) -> bool:
     """Writes JSON to a file, unless the file already has the same content. Returns whether it wrote."""
-    return disk.write_changed(path, (json.dumps(value, ensure_ascii=False, indent=1) + "\n").encode())
+    # A name that isn't UTF-8 has surrogates, which JSON can escape.
+    text = json.dumps(value, ensure_ascii=False, indent=1) + "\n"
+    return disk.write_changed(path, text.encode("utf-8", "backslashreplace"))
 
 
 def plan_files(work: str) -> set[str]:

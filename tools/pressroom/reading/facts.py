@@ -31,18 +31,22 @@ INKS = {b"/Cyan", b"/Magenta", b"/Yellow", b"/Black", b"/None"}
 @dataclass
 class Facts:
     """What the objects of a page have: transparency, overprint, transfer functions, the names of spots and of the
-    separation All, groups that blend in RGB, whether an object refers to itself, and whether an object was changed.
+    separation All, groups that blend in RGB, groups that blend otherwise than in CMYK, whether a picture has alternates,
+    what mutool can't show, whether an object refers to itself, and whether an object was changed.
     """
 
     blends: bool = False
     overprints: bool = False
     transfers: bool = False
     rgb_groups: bool = False
+    other_groups: bool = False
+    alternates: bool = False
     circular: bool = False
     changed: bool = False
     spots: set[bytes] = field(default_factory=set)
+    unlike: set[str] = field(default_factory=set)
     masks: set[object] = field(default_factory=set)
-    groups: list[tuple[object, bool]] = field(default_factory=list)
+    groups: list[tuple[object, str]] = field(default_factory=list)
 
 
 def facts_of(page: pikepdf.Object) -> Facts:
@@ -71,7 +75,8 @@ def facts_of(page: pikepdf.Object) -> Facts:
             stack += [
                 (item, False, level) for item, level in in_dictionary(value, facts, value is page, named)
             ]
-    facts.rgb_groups = any(is_rgb for mark, is_rgb in facts.groups if mark is None or mark not in facts.masks)
+    kinds = {kind for mark, kind in facts.groups if mark is None or mark not in facts.masks}
+    facts.rgb_groups, facts.other_groups = "rgb" in kinds, bool(kinds - {"cmyk", ""})
     return facts
 
 
@@ -81,6 +86,8 @@ def in_array(value: pikepdf.Object, facts: Facts) -> list[pikepdf.Object]:
         second = value[1]
         names = list(second) if is_array(second) else [second]
         facts.spots |= {name(item) for item in names} - INKS - {b""}
+        if name(second) == b"/None":
+            facts.unlike.add("the separation None")
     found = []
     for place in range(len(value)):
         item = value[place]
@@ -126,13 +133,18 @@ def see_key(holder: pikepdf.Object, key: bytes, value: object, facts: Facts, is_
     if key == b"/Group":
         facts.blends |= not is_page
         space = get(value, b"/CS")
-        facts.groups.append((identity(holder), space is not None and space_of(space).kind == "rgb"))
+        facts.groups.append((identity(holder), "" if space is None else space_of(space).kind))
     elif key in OPAQUE:
         word = name(value) or number(value)
         facts.blends |= word not in OPAQUE[key]
+    elif key == b"/Alternates":
+        facts.alternates = True
     elif key in (b"/OP", b"/op"):
         facts.overprints |= value is not False
     elif key in (b"/TR", b"/TR2", b"/TransferFunction"):
-        facts.transfers |= name(value) not in (b"/Identity", b"/Default")
+        is_used = name(value) not in (b"/Identity", b"/Default")
+        facts.transfers |= is_used
+        if is_used and is_stream(get(holder, b"/G")):
+            facts.unlike.add("a soft mask with a transfer function")
     elif key == b"/G" and is_stream(value) and name(get(holder, b"/S")) in (b"/Luminosity", b"/Alpha"):
         facts.masks.add(identity(value))

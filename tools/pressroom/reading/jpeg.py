@@ -56,7 +56,8 @@ def decoded(data: bytes, side: int) -> Image.Image:
     """Returns the pixels of a file, or of each square of `side` by `side` pixels one."""
     image = Image.open(io.BytesIO(data))
     if side > 1:
-        image.draft(None, (max(1, image.width // side), max(1, image.height // side)))  # type: ignore[attr-defined]
+        # The types of Pillow that some machines have don't know that the mode may be None.
+        getattr(image, "draft")(None, (max(1, image.width // side), max(1, image.height // side)))
     image.load()
     return image
 

@@ -11,7 +11,17 @@ import pikepdf
 from PIL import Image
 
 from pressroom.reading.jpeg import lack_of
-from pressroom.reading.objects import Unreadable, copied, get, is_array, name, number, pairs
+from pressroom.reading.objects import (
+    Unreadable,
+    copied,
+    get,
+    is_array,
+    is_stream,
+    is_true,
+    name,
+    number,
+    pairs,
+)
 from pressroom.reading.spaces import LUMINOSITY, Space
 
 if TYPE_CHECKING:
@@ -81,6 +91,17 @@ def jpeg_2000(data: bytes) -> Jpeg2000:
         elif kind == b"pclr":
             count = max(count, body[2] if len(body) > 2 else 0)
     return Jpeg2000(count - alpha, space, alpha > 0)
+
+
+def alternate(picture: pikepdf.Object) -> pikepdf.Object | None:
+    """Returns the picture that prints in place of this one, or None: ISO 32000-1, 8.9.5.4."""
+    others = get(picture, b"/Alternates")
+    every: list[object] = [*others] if is_array(others) else []
+    for other in every:
+        image = get(other, b"/Image")
+        if is_true(get(other, b"/DefaultForPrinting")) and is_stream(image):
+            return image
+    return None
 
 
 def see_jpeg(pdf: pikepdf.Pdf, picture: pikepdf.Object, where: str) -> None:

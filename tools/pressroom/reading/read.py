@@ -46,7 +46,10 @@ FORM = pikepdf.Name("/Form")
 
 
 class Read(TypedDict):
-    """What is read of a page: boxes in units of the page, the unit in points, and what the page shows."""
+    """What is read of a page: boxes in units of the page, the unit in points, and what the page shows. `otherwise` is
+    whether a viewer shows the PDF otherwise than it prints, `unlike` what mutool can't show, and `tints` whether a shading
+    is in tints of colorants.
+    """
 
     trim: tuple[float, float, float, float]
     crop: tuple[float, float, float, float]
@@ -62,6 +65,9 @@ class Read(TypedDict):
     overprints: bool
     spots: list[str]
     transfers: bool
+    otherwise: bool
+    unlike: list[str]
+    tints: bool
     fonts: list[str]
     edited: bool
 
@@ -100,6 +106,12 @@ class Page:
             "overprints": facts.overprints,
             "spots": sorted(word[1:].decode("latin-1") for word in facts.spots),
             "transfers": facts.transfers,
+            "otherwise": self.optional.exists
+            or facts.other_groups
+            or facts.alternates
+            or self.walk.has("areas"),
+            "unlike": sorted(facts.unlike),
+            "tints": self.walk.has("tints"),
             "fonts": sorted(self.walk.fonts),
             "edited": self.changed,
         }

@@ -38,6 +38,8 @@ class Reader:
         self.saved: list[State] = []
         self.marks: list[bool] = []
         self.watch, self.hidden, self.data = Watch(), 0, b""
+        # Where the first operator of a glyph ends, and whether a soft mask is set.
+        self.begun, self.masked = 0, False
 
     def edits(self, data: bytes) -> list[Edit]:
         """Returns what changes in the stream."""
@@ -69,6 +71,8 @@ class Reader:
             return self.painted(instruction)
         elif operator in (b"gs", b"Tf", b"Tr"):
             self.set(instruction)
+        elif operator in (b"d0", b"d1"):
+            self.begun = instruction.end
         return None
 
     def colour(self, instruction: Instruction) -> bytes | None:
@@ -136,6 +140,7 @@ class Reader:
             self.state = replace(self.state, named=word, font=self.resources.find(b"/Font", word))
             return
         old = self.resources.needed(b"/ExtGState", word, "graphics state")
+        self.masked |= is_dictionary(get(old, b"/SMask"))
         new = self.walk.state_of(old, self.resources, self.state, self.mask)
         self.resources.change(b"/ExtGState", word, old, new)
         font = get(old, b"/Font")
@@ -190,6 +195,12 @@ class Reader:
             return escaped(word) + b" Do"
         self.walk.rgb |= space.has("rgb")
         return None
+
+
+def enclosed(data: bytes, edits: list[Edit], start: int) -> list[Edit]:
+    """Returns the edits and two more, by which the state from `start` on is restored at the end."""
+    first, last = Edit(start, start, b" q "), Edit(len(data), len(data), b"\nQ")
+    return sorted([first, *edits, last], key=lambda edit: edit.start)
 
 
 def spliced(data: bytes, edits: list[Edit]) -> bytes:

@@ -31,18 +31,24 @@ CLOSE = 4 / 255
 
 
 class Shadings:
-    """The shadings of a PDF. `rgb` and `lab` are whether one shows colours in RGB or Lab."""
+    """The shadings of a PDF. `rgb` and `lab` are whether one shows colours in RGB or Lab, `areas` whether one is by a
+    function of x and y, and `tints` whether one is in tints of colorants.
+    """
 
     def __init__(self, pdf: pikepdf.Pdf, blacks: Blacks) -> None:
         self.pdf, self.blacks, self.rgb, self.lab = pdf, blacks, False, False
+        self.areas, self.tints = False, False
 
     def changed(self, shading: pikepdf.Object, where: str, mask: bool) -> pikepdf.Object:
         """Returns what is painted in a shading's place, which may be the same shading."""
         if not is_dictionary(shading):
             raise Unreadable("damaged", f"damaged: {where} isn't a shading")
         try:
-            made = self.by_area(shading) if number(get(shading, b"/ShadingType")) == 1 else shading
+            by_area = number(get(shading, b"/ShadingType")) == 1
+            self.areas |= by_area
+            made = self.by_area(shading) if by_area else shading
             space = space_of(get(made, b"/ColorSpace"))
+            self.tints |= space.kind == "other"
             self.lab |= space.has("lab")
             if space.kind == "rgb":
                 return self.neutral(made, mask)

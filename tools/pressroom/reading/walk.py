@@ -14,8 +14,8 @@ from pressroom.reading.objects import (
     Unreadable, copied, get, identity, is_dictionary, is_stream, is_true, items, name, readable, shown, without,
 )  # fmt: skip
 from pressroom.reading.optional import Optional
-from pressroom.reading.pictures import JPEG, JPEG_2000, filters, grey, see_jpeg, untagged_2000
-from pressroom.reading.reader import Reader, spliced
+from pressroom.reading.pictures import JPEG, JPEG_2000, alternate, filters, grey, see_jpeg, untagged_2000
+from pressroom.reading.reader import Reader, enclosed, spliced
 from pressroom.reading.resources import Resources
 from pressroom.reading.spaces import DEVICE, Blacks, Space, space_of
 from pressroom.reading.tokens import Scrambled
@@ -52,6 +52,10 @@ class Walk:
         if "shadings" in self.__dict__:
             rgb, lab = rgb or self.shadings.rgb, lab or self.shadings.lab
         return rgb, lab
+
+    def has(self, what: str) -> bool:
+        """Returns whether a shading of the page is of a kind: `areas` or `tints`."""
+        return "shadings" in self.__dict__ and bool(getattr(self.shadings, what))
 
     def stream(
         self, data: bytes, resources: Resources, state: State, mask: bool
@@ -144,6 +148,9 @@ class Walk:
         key = "picture", identity(value), mask
         if key in self.made:
             return self.made[key]
+        if (other := alternate(value)) is not None and get(other, b"/Alternates") is None:
+            self.made[key] = self.picture(other, resources, word, mask)
+            return self.made[key]
         made = value
         if filters(value)[-1:] == [JPEG]:
             see_jpeg(self.pdf, value, where)
@@ -194,6 +201,9 @@ class Walk:
             reader = Reader(self, inner, replace(state, mode=0), mask)
             data = readable(glyph, f"the glyph {shown(word)}")
             edits = reader.edits(data)
+            if reader.masked and reader.begun:
+                # Ghostscript 10.00 keeps a soft mask of a glyph for the groups of later glyphs.
+                edits = enclosed(data, edits, reader.begun)
             self.stack.pop()
             if edits:
                 texts[word] = spliced(data, edits)

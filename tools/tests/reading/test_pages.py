@@ -2,6 +2,7 @@
 import io
 import os
 import sys
+from typing import Any
 
 import numpy as np
 import pikepdf
@@ -25,7 +26,7 @@ def test_jpeg_ends() -> None:
         assert lack_of(data) == "its end"
 
 
-def waves(mode: str, side: int, flat: bool, **how: object) -> bytes:
+def waves(mode: str, side: int, flat: bool, **how: Any) -> bytes:
     """Returns a JPEG file of waves, or of grey."""
     y, x = np.mgrid[0:side, 0:side]
     bands = [128 + (0 if flat else 90) * np.sin(x / 7 + y / 11 + band) for band in range(4)]
@@ -38,7 +39,7 @@ def waves(mode: str, side: int, flat: bool, **how: object) -> bytes:
 @pytest.mark.parametrize("mode", ["L", "RGB", "CMYK"])
 @pytest.mark.parametrize("how", [{}, {"progressive": True}, {"subsampling": 2, "quality": 30}])
 @pytest.mark.parametrize("side", [8, 61, 400])
-def test_jpeg_rows(mode: str, how: dict[str, object], side: int) -> None:
+def test_jpeg_rows(mode: str, how: dict[str, Any], side: int) -> None:
     how = {key: value for key, value in how.items() if mode != "L" or key != "subsampling"}
     assert not lack_of(waves(mode, side, False, **how)) and not lack_of(waves(mode, side, True, **how))
     whole = waves(mode, side, False, **how)
