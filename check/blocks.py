@@ -17,7 +17,8 @@ synopses. A comment of HTML in the line above a block says more of it:
     <!-- until: COMMAND -->   the next block waits until this command succeeds, two minutes at most
 
 In a text to compare, `..` stands for any characters, and times, dates, sums and seconds for any others. PROGRAM
-is the `plateroom` that the blocks call; `pressroom` is this repository's. A document is a file of DOCUMENTS. The
+is the `plateroom` that the blocks call; `pressroom` is this repository's, and EXAMPLES its examples. A document is a file
+of DOCUMENTS. The
 last line is `N passed, M failed`: a test for each block that runs and each text that is compared.
 """
 import os
@@ -33,7 +34,7 @@ sys.dont_write_bytecode = True
 from trial import Count
 
 TOP = os.path.abspath(os.path.join(os.path.dirname(os.path.abspath(__file__)), ".."))
-DOCUMENTS = "README.md", "docs/MANUAL.md"
+DOCUMENTS = "docs/MANUAL.md", "examples/newspaper/README.md", "examples/queue/README.md", "examples/tiles/README.md"
 SECONDS = 900
 
 FENCE = re.compile(r"^( *)```(\w*)$")
@@ -176,7 +177,7 @@ def see(count: Count, name: str, program: str, room: str) -> None:
     os.chmod(file.name, 0o755)
     environment = {
         **os.environ, "HOME": room, "PATH": f"{bin_folder}:{os.environ['PATH']}", "PLATEROOM": os.path.abspath(program),
-        "PYTHONDONTWRITEBYTECODE": "1",
+        "PYTHONDONTWRITEBYTECODE": "1", "EXAMPLES": os.path.join(TOP, "examples"),
     }
     with subprocess.Popen(["bash", "-c", script(runs, logs, folder)], cwd=folder, env=environment,
                           stdin=subprocess.DEVNULL, start_new_session=True) as process:

@@ -3,6 +3,7 @@
 # LATE is a folder of the same files in which some came late, behind a run with FILES: then each part is a target of
 # replate, which makes the plates that changed from FILES to LATE, and what it made is printed part by part.
 # usage: make.sh PLAN FILES OUT [WORDS of tools/parts.py..]      JOBS: how many at once (4); PLATEROOM: the program; LATE
+needs=make package=make
 . "$(dirname "$0")/edition.sh"
 late=${LATE:+$(realpath "$LATE")}
 export late

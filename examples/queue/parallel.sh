@@ -2,6 +2,7 @@
 # Makes an edition in parts under GNU parallel. Run again, it makes what failed or was never done, by the log of its jobs.
 # Of machines that have all at the same paths: PARALLEL='--sshlogin host1,host2 --env PLATEROOM'.
 # usage: parallel.sh PLAN FILES OUT [WORDS of tools/parts.py..]      JOBS: how many at once (4); PLATEROOM: the program
+needs=parallel package=parallel
 . "$(dirname "$0")/edition.sh"
 # The log tells jobs by their numbers, so it is of no use where the parts are others.
 log=$parts/jobs

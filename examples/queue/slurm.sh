@@ -3,6 +3,7 @@
 # or has another plan. PLAN, FILES, OUT and the program lie at the same paths on all nodes. Variables as SBATCH_PARTITION
 # and SBATCH_TIMELIMIT say more of the job.
 # usage: slurm.sh PLAN FILES OUT [WORDS of tools/parts.py..]      PLATEROOM: the program
+needs=sbatch package=slurm-wlm
 . "$(dirname "$0")/edition.sh"
 missing=$(for name in $names; do
   [ "$parts/$name.report" -nt "$parts/$name.json" ] || grep -n "^plan $name.json " "$parts/list" | cut -d : -f 1
