@@ -5,8 +5,8 @@ python3 check/intake.py PROGRAM
 
 The pages are PDFs made with Ghostscript's pdfwrite, with the other PDF writers that are installed, and by
 hand. The check counts the pixels on their plates, or compares the plates with poppler's rendering. It needs
-Ghostscript, qpdf, poppler-utils, libtiff-tools, numpy, Pillow and pikepdf, and is skipped without them. The last line
-is `N passed, M failed`, and the status is 1 if a test failed.
+Ghostscript, qpdf, mupdf-tools, poppler-utils, libtiff-tools, numpy, Pillow and pikepdf, and is skipped without
+them. The last line is `N passed, M failed`, and the status is 1 if a test failed.
 """
 import json
 import os
@@ -538,7 +538,9 @@ def see_newspaper(results, program, folder):
 def main():
     if len(sys.argv) != 2:
         sys.exit(__doc__.splitlines()[2].strip())
-    lacking = missing("PIL", "numpy", "pikepdf") or missing_program("gs", "qpdf", "pdftoppm", "tiffcp", "prlimit")
+    lacking = missing("PIL", "numpy", "pikepdf") or missing_program(
+        "gs", "qpdf", "pdftoppm", "tiffcp", "prlimit", "mutool"
+    )
     if lacking:
         print(f"skipped: {lacking} isn't installed")
         sys.exit(Count().end())

@@ -4,7 +4,7 @@ import re
 import zlib
 
 from intake_cells import Sheet, coded, form, house, image, mask, middle, planes
-from intake_ink import BLACK, CYAN, FILL, HALF, image_of, inks
+from intake_ink import BLACK, CYAN, FILL, GROUND, HALF, OVER, image_of, inks
 from intake_pages import Pages, fields, intake
 
 DPI = 127
@@ -13,6 +13,7 @@ NOISE = bytes(37 * n * n % 251 for n in range(64 * 64 * 4))
 PICTURE = "q 20 0 0 20 0 0 cm /I Do Q"
 HELVETICA = "<< /Type /Font /Subtype /Type1 /BaseFont /Helvetica >>"
 TEXT = "BT /H 12 Tf {} Tr 2 2 Td (Hi) Tj ET"
+TINTS = "/C0 [0 0 0 0] /C1 [0 0 0 1]"
 NESTED = "[" * 3000 + "]" * 3000
 
 
@@ -162,6 +163,10 @@ def accepted():
         "JPEG with bytes after its end": pictured(jpeg() + b"\n\0\0", notes=("rgb",)),
         "grey JPEG in a form": within(grey, "form"),
         "alternates": alternates(),
+        "the separation None": Sheet(
+            {"ground": (f"{GROUND} /N cs .5 scn {FILL}", OVER)}, {"tint": f"<< /FunctionType 2 /Domain [0 1] {TINTS} /N 1 >>"},
+            "/ColorSpace << /N [/Separation /None /DeviceCMYK {tint}] >>", notes=("uncompared",),
+        ),
         "JPEG that ends in grey": pictured(coded("JPEG", b"\x80" * 64 * 64, "L", 64), "/DeviceGray"),
         "alpha within JPEG 2000": Sheet(
             {"half black": (PICTURE, four)},

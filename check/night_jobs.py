@@ -261,6 +261,13 @@ def machine_trials(night, folder):
         os.symlink(shutil.which(name, path=path), os.path.join(stand_ins, name))
     answer, _ = night.page(good)
     night.tried.holds("Ghostscript is missing", none_because(answer, "is not installed"))
+    for name in ("gs", "qpdf", "pdftohtml", "tiffcp", "tiffinfo"):
+        os.symlink(shutil.which(name, path=path), os.path.join(stand_ins, name))
+    answer, _ = night.page(good)
+    wanted = ["not compared: mutool is not installed"]
+    night.tried.holds("mutool is missing", "" if answer.get("notes") == wanted else answer)
+    answer, _ = night.page(good, house=HOUSE + '[check]\nsecond = "fault"\n')
+    night.tried.holds("mutool is missing and asked for", none_because(answer, "mutool is not installed"))
     os.environ["PATH"], sandbox.SEEN = path, seen
     limits = sandbox.LIMITS["page"]
     sandbox.LIMITS["page"] = sandbox.Limits(limits.seconds, limits.cpu, limits.memory, 0)

@@ -11,7 +11,7 @@ import tempfile
 from dataclasses import dataclass
 from typing import TYPE_CHECKING, cast
 
-from pressroom.base.limits import Limits
+from pressroom.base.limits import Limits, Passed
 
 if TYPE_CHECKING:
     from pressroom.reading.read import Read
@@ -132,6 +132,8 @@ def read(limits: Limits, name: str, folder: str) -> "Read":
     with open(path, encoding="utf-8") as file:
         found = json.load(file)
     if isinstance(found, list):
+        if found[0] == "limit":
+            raise Passed(printable(found[1]))
         raise Refused(found[0], printable(found[1]))
     return cast("Read", found)
 

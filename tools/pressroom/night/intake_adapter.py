@@ -13,6 +13,7 @@ from pressroom.night.house_reader import read_tables
 from pressroom.night.night_keys import without_own
 from pressroom.night.records import Layer
 from pressroom.intake.pdf import Refused
+from pressroom.intake.second import PROGRAM as SECOND
 
 # The limits of each program that reads a page: seconds, and megabytes of memory and of a file.
 LIMITS = Limits(seconds=120, memory=2000, output=4000)
@@ -51,6 +52,8 @@ def made(text: str, profile: str | None, name: str, kind: str, folder: str) -> A
         see_libraries()
         house = house_of(text, profile and os.path.join(folder, profile), folder)
         page = Page(house, folder)
+        if page.opinion.missing and house.check.second == "fault":
+            return NoVerdict(f"{SECOND} is not installed")
         found = (
             bitmaps.made_of(house, LIMITS, name, folder) if kind == "tiff" else page.rendered(name, folder)
         )
@@ -63,7 +66,10 @@ def made(text: str, profile: str | None, name: str, kind: str, folder: str) -> A
     except MemoryError:
         return NoVerdict("memory")
     layers = [{"kind": layer.keys["kind"], "file": layer.file} | layer.keys for layer in found.layers]
-    return Accepted(found.inks, layers, [note_text(*note) for note in found.notes])
+    notes = [note_text(*note) for note in found.notes]
+    if page.opinion.missing and kind == "pdf":
+        notes.append(f"not compared: {SECOND} is not installed")
+    return Accepted(found.inks, layers, notes)
 
 
 class Page(Intake):

@@ -4,6 +4,7 @@ libjpeg paints what is missing grey and reports it to nobody who asks. So the te
 bytes: bytes that are put in before the end of a whole file are passed over, and those of a file that was cut off
 become pixels.
 """
+import hashlib
 import io
 import re
 
@@ -19,6 +20,8 @@ MORE = b"\x55\xaa" * 2048, b"\x12\xef\x9b\x6c" * 1024
 # What libjpeg paints in place of missing rows, give or take its conversion of colours; and the most pixels of a file
 # that is tested without a look at them.
 GREY, SMALL = range(126, 131), 1 << 16
+# How many rows are compared at once.
+ROWS = 256
 UNKNOWN = OSError, SyntaxError, ValueError
 Image.MAX_IMAGE_PIXELS = None
 
@@ -97,7 +100,16 @@ def takes_more(data: bytes, markers: Markers) -> bool:
     last = image.getpixel((image.width - 1, image.height - 1))
     if side > 1 and not all(band in GREY for band in (last if isinstance(last, tuple) else (last,))):
         return False
-    pixels = image.tobytes()
+    pixels = digest(image)
+    del image
     return any(
-        decoded(data[: markers.end] + more + data[markers.end :], side).tobytes() != pixels for more in MORE
+        digest(decoded(data[: markers.end] + more + data[markers.end :], side)) != pixels for more in MORE
     )
+
+
+def digest(image: Image.Image) -> bytes:
+    """Returns the digest of an image's pixels, without a copy of all of them."""
+    found = hashlib.blake2b()
+    for top in range(0, image.height, ROWS):
+        found.update(image.crop((0, top, image.width, min(top + ROWS, image.height))).tobytes())
+    return found.digest()

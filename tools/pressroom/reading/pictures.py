@@ -106,7 +106,11 @@ def alternate(picture: pikepdf.Object) -> pikepdf.Object | None:
 
 def see_jpeg(pdf: pikepdf.Pdf, picture: pikepdf.Object, where: str) -> None:
     """Refuses a JPEG picture that is cut off."""
-    if lack := lack_of(coded(pdf, picture)):
+    try:
+        lack = lack_of(coded(pdf, picture))
+    except MemoryError:
+        raise Unreadable("limit", f"{where} is a JPEG file that needs more memory than the limit") from None
+    if lack:
         raise Unreadable("damaged", f"damaged: {where} is a JPEG file without {lack}")
 
 

@@ -12,6 +12,7 @@ from PIL import Image
 sys.dont_write_bytecode = True
 sys.path.insert(0, os.path.join(os.path.dirname(os.path.abspath(__file__)), "..", ".."))
 
+from pressroom.reading import pictures
 from pressroom.reading.boxes import clipped, page_boxes, rotation, unit
 from pressroom.reading.objects import Unreadable
 from pressroom.reading.jpeg import lack_of
@@ -47,6 +48,18 @@ def test_jpeg_rows(mode: str, how: dict[str, Any], side: int) -> None:
         last = whole.rindex(b"\xff\xda") + 14
         cut = whole[: last + int((len(whole) - last) * part) - 3].rstrip(b"\xff") + b"\xff\xd9"
         assert lack_of(cut) == "its last rows", part
+
+
+def test_a_jpeg_that_needs_too_much_memory(monkeypatch: pytest.MonkeyPatch) -> None:
+    def fails(data: bytes) -> str:
+        raise MemoryError
+
+    monkeypatch.setattr(pictures, "lack_of", fails)
+    pdf = pikepdf.new()
+    picture = pikepdf.Stream(pdf, b"\xff\xd8", Filter=pikepdf.Name("/DCTDecode"))
+    with pytest.raises(Unreadable, match="more memory than the limit") as error:
+        pictures.see_jpeg(pdf, picture, "the picture I")
+    assert error.value.kind == "limit"
 
 
 def test_jpeg_components() -> None:
