@@ -34,9 +34,7 @@ zone = "west"
 zone = "north"
 """
 NIGHT = """[zones]
-west = ["A02", "A07"]
-north = ["A01"]
-[night]
+%s[night]
 settle = 0.3
 least_free = 0
 approve = %s
@@ -66,7 +64,13 @@ def content(place, number):
 
 
 class Evening:
-    """A spool with its service, which may be killed at any moment, and the folders of three sites."""
+    """A spool with its service, which may be killed at any moment, and the folders of its sites.
+
+    `pages` is the page count, `zones` has each zone's own pages, `zone_of` each site's zone, and `text` is the house
+    file as intake reads it.
+    """
+
+    pages, zones, zone_of, text = PAGES, ZONES, SITES, HOUSE
 
     def __init__(self, tried, folder, seed, ask=False, tools=None):
         self.tried, self.folder, self.rng, self.ask = tried, folder, random.Random(seed), ask
@@ -80,13 +84,18 @@ class Evening:
         with open(self.program, "wb") as file:
             file.write(STAND_IN.replace("{size}", str(len(real))).encode() + real)
         os.chmod(self.program, 0o755)
-        self.sites = {site: os.path.join(folder, "sites", site) for site in SITES}
+        self.sites = {site: os.path.join(folder, "sites", site) for site in self.zone_of}
         for path in self.sites.values():
             os.makedirs(path)
         with open(self.house, "w", encoding="utf-8") as file:
             deadline = 'press_start = "23:30"\nlead = 10\nplate_seconds = 60\n'
-            file.write(HOUSE % deadline + NIGHT % ("true" if ask else "false"))
-            file.write("".join(f'{site} = "{path}"\n' for site, path in self.sites.items()))
+            own = "".join(f"{zone} = {json.dumps(pages)}\n" for zone, pages in self.zones.items())
+            file.write(self.text % deadline + NIGHT % (own, "true" if ask else "false"))
+            file.write("".join(f'{site} = "{self.target(site)}"\n' for site in self.sites))
+
+    def target(self, site):
+        """The way to a site, as the house file has it."""
+        return self.sites[site]
 
     # ---- the service
 
@@ -216,7 +225,7 @@ class Evening:
                 file.write(page(content(place, number), SIZE))
         house = os.path.join(self.folder, "plain.toml")
         with open(house, "w", encoding="utf-8") as file:
-            file.write(HOUSE % "")
+            file.write(self.text % "")
         words = [
             sys.executable,
             "-B",
@@ -230,7 +239,7 @@ class Evening:
         run = [self.tried.program, "run", os.path.join(work, "plan.json"), os.path.join(work, "files"), out]
         subprocess.run(run, check=True, capture_output=True)
         found = {}
-        for site in SITES:
+        for site in self.zone_of:
             found[site] = {}
             for name in os.listdir(os.path.join(out, site)):
                 with open(os.path.join(out, site, name), "rb") as file:
@@ -285,16 +294,18 @@ class Evening:
             elif name == "complete":
                 pairs = {pair for site, pair in sent if site == event["site"]}
                 faults += (
-                    [] if len(pairs) == PAGES // 2 else [f"{event['site']} complete with {len(pairs)} pairs"]
+                    []
+                    if len(pairs) == self.pages // 2
+                    else [f"{event['site']} complete with {len(pairs)} pairs"]
                 )
         self.tried.holds("what left might leave, by the events alone", "; ".join(faults[:5]))
 
     def leaves(self, event, held, judged, good, approved):
         """What was wrong when a pair left."""
-        number, zone = int(event["pair"].split("-")[1]), SITES[event["site"]]
+        number, zone = int(event["pair"].split("-")[1]), self.zone_of[event["site"]]
         faults = []
-        for place in (f"A{number:02}", f"A{PAGES + 1 - number:02}"):
-            place = f"{zone}/{place}" if place in ZONES.get(zone, ()) else place
+        for place in (f"A{number:02}", f"A{self.pages + 1 - number:02}"):
+            place = f"{zone}/{place}" if place in self.zones.get(zone, ()) else place
             for is_so, what in (
                 (place not in good, "never came"),
                 (place in held, "is held"),

@@ -1,5 +1,6 @@
 """The units of package/systemd by systemd's own tools, where they are installed."""
 import os
+import re
 import shutil
 import subprocess
 
@@ -41,8 +42,23 @@ def unit_trials(tried, paper, folder):
     write_unit("pressroom-night.service", units, "ProtectClock=yes", "ProtectClock=maybe")
     _, said = analyzed(units, "verify", "--man=no", "pressroom-night.service")
     tried.holds("a wrong unit is named", "" if "boolean value" in said else said)
+    with open(os.path.join(UNITS, "pressroom-night.service"), encoding="utf-8") as file:
+        text = file.read()
+    tried.holds("the manual's file of metrics may be written", metrics_fault(text))
+    without = text.replace("ReadWritePaths=-/var/lib/prometheus/node-exporter\n", "")
+    tried.holds("a unit without its folder is noticed", "" if metrics_fault(without) else "it isn't")
     tmpfiles(tried, folder)
     tried.part("units")
+
+
+def metrics_fault(unit):
+    """Why the night's unit can't write the file of metrics that the manual names, or nothing."""
+    with open(os.path.join(press.TOP, "docs", "MANUAL.md"), encoding="utf-8") as file:
+        named = re.findall(r'^metrics = "([^"]+)"', file.read(), re.MULTILINE)
+    lines = re.findall(r"^ReadWritePaths=(.*)", unit, re.MULTILINE)
+    folders = [path.lstrip("-") for line in lines for path in line.split()]
+    is_below = named and all(any(path.startswith(f"{one}/") for one in folders) for path in named)
+    return "" if is_below else f"{named} aren't below {folders}"
 
 
 def write_unit(name, units, old="", new=""):

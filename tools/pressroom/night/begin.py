@@ -18,11 +18,21 @@ def enter_house(book: Book, text: str) -> int:
         if book_row is None:
             values = [total, text, book.now()]
             book_row = db.execute("INSERT INTO house (sum, text, at) VALUES (?, ?, ?)", values).lastrowid
-        if book.journal.value("SELECT house FROM spool") != book_row:
+        if (
+            book.journal.value("SELECT house FROM spool") != book_row
+            or last_of_house(book) == "house_refused"
+        ):
             db.execute("UPDATE spool SET house = ?", [book_row])
             book.tell("house", house=total[:4])
         db.execute("DELETE FROM pause WHERE kind = 'house'")
     return int(book_row)
+
+
+def last_of_house(book: Book) -> str | None:
+    """Returns the name of the last event about the house file: `house` or `house_refused`."""
+    sql = "SELECT name FROM event WHERE name IN ('house', 'house_refused') ORDER BY seq DESC LIMIT 1"
+    name: str | None = book.journal.value(sql)
+    return name
 
 
 def refuse_house(book: Book, fault: str) -> None:

@@ -30,14 +30,17 @@ class Asker:
 
 
 def reach(book: Book, place: int) -> dict[str, list[str]]:
-    """Returns the sites of a page's pairs by what they have: had it, in time, may be out."""
+    """Returns the sites of a page's pairs by what they have: had it, had an older one, in time, may be out."""
     rows = book.journal.rows(
         "SELECT s.name, p.id, EXISTS (SELECT 1 FROM version v WHERE v.pair = p.id AND v.state IN ('leaving', 'unknown')) AS out,"
-        " EXISTS (SELECT 1 FROM there t WHERE t.pair = p.id) AS had FROM pair p JOIN site s ON s.id = p.site"
-        " WHERE ? IN (p.left, p.right) ORDER BY s.id",
+        " f.id IS NOT NULL AS some, CASE p.left WHEN g.place THEN f.left ELSE f.right END IS g.render AND g.render IS NOT NULL"
+        " AS had FROM pair p JOIN site s ON s.id = p.site JOIN page g ON g.place = ? LEFT JOIN there t ON t.pair = p.id"
+        " LEFT JOIN version v ON v.id = t.id LEFT JOIN plates f ON f.id = v.plates"
+        " WHERE g.place IN (p.left, p.right) ORDER BY s.id",
         place,
     )
     kinds = {"had_it": [r["name"] for r in rows if r["had"] and not r["out"]]}
+    kinds["older"] = [r["name"] for r in rows if r["some"] and not r["had"]]
     kinds["may_be_out"] = [r["name"] for r in rows if r["out"]]
     kinds["in_time"] = [r["name"] for r in rows if not r["out"] and not r["had"]]
     return kinds
@@ -47,6 +50,7 @@ def told(name: str, page: str, asker: Asker, kinds: dict[str, list[str]]) -> Ans
     """Returns the answer of a command on a page."""
     words = [f"{page} {name}"]
     words += [f"{', '.join(kinds['had_it'])} had it"] if kinds["had_it"] else []
+    words += [f"{', '.join(kinds['older'])} had an older one"] if kinds["older"] else []
     words += [f"in time for {', '.join(kinds['in_time'])}"] if kinds["in_time"] else []
     words += [f"may be out at {', '.join(kinds['may_be_out'])}"] if kinds["may_be_out"] else []
     return Answer("; ".join(words), dict(kinds))
@@ -149,7 +153,7 @@ def resend(
     if not reason.strip() or "\n" in reason:
         raise Refused("a resend needs a reason, on one line")
     pairs = book.journal.rows(
-        "SELECT p.id, p.section, p.number, t.id AS version, n.plates FROM pair p JOIN site s ON s.id = p.site"
+        "SELECT p.id, p.section, p.number, p.left, p.right, n.left_state, n.right_state, t.id AS version, n.plates FROM pair p JOIN site s ON s.id = p.site"
         " JOIN pair_now n ON n.pair = p.id LEFT JOIN there t ON t.pair = p.id WHERE s.edition = ? AND s.name = ?",
         row,
         site,
@@ -165,7 +169,18 @@ def resend(
         if not count:
             raise Refused(f"{site} has no such plate yet, so nothing is sent again")
         due.settle(book, row)
-    return Answer(f"{site}: {count} to be sent again", {"count": count})
+    waits = [text for p in pairs if p["version"] is not None and (text := waiting(book, p))]
+    return Answer("; ".join([f"{site}: {count} to be sent again", *waits]), {"count": count, "waits": waits})
+
+
+def waiting(book: Book, pair: sqlite3.Row) -> str:
+    """Returns for which of its pages a pair can't leave now, or nothing."""
+    pages = [
+        f"{book.page_name(pair[side])} ({pair[side + '_state']})"
+        for side in ("left", "right")
+        if pair[side + "_state"] != "ready"
+    ]
+    return f"{pair_name(pair['section'], pair['number'])} waits for {', '.join(pages)}" if pages else ""
 
 
 def ask_again(

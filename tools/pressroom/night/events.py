@@ -27,7 +27,7 @@ PLAIN = {
     "acked": "version {number} is acknowledged",
     "unknown": "version {number} may be there: {why}",
     "withheld": "version {number} isn't there, and is held: {why}",
-    "lost": "version {number} is gone from the site; it is sent again",
+    "lost": "version {number} isn't there as it was sent; it is sent again",
     "dropped": "version {number} isn't sent: {why}",
     "leaving": "version {number} leaves",
     "complete": "complete, {count} pairs",
@@ -75,6 +75,7 @@ def told_hold(verb: str) -> Callable[[More], str]:
     def told(more: More) -> str:
         parts = [f"{verb} by {more['by']}" + (f": {more['word']}" if more.get("word") else "")]
         parts += [f"{listed(more['had_it'])} had it"] if more.get("had_it") else []
+        parts += [f"{listed(more['older'])} had an older one"] if more.get("older") else []
         parts += [f"{listed(more['in_time'])} in time"] if more.get("in_time") else []
         parts += [f"{listed(more['may_be_out'])} may be out"] if more.get("may_be_out") else []
         return "; ".join(parts)
@@ -106,7 +107,8 @@ def told_resend(more: More) -> str:
 
 
 def told_waits(more: More) -> str:
-    again = f"waits {more['next']:.0f} s: {more['why']} (try {more['tries']})"
+    file = f"{more['file']} " if more.get("file") else ""
+    again = f"{file}waits {more['next']:.0f} s: {more['why']} (try {more['tries']})"
     return again + ("; it needs a person" if more.get("needs") else "")
 
 

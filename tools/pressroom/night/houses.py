@@ -1,4 +1,5 @@
 """House files by their rows, and editions as the journal has them planned."""
+import errno
 import json
 import os
 from collections.abc import Callable
@@ -6,6 +7,10 @@ from typing import Any, Protocol
 
 from pressroom.night.book import Book
 from pressroom.night.records import PageKey, Page, Pair, Plan, Planned, Render, Site
+
+
+class Unreadable(OSError):
+    """A house file was good and isn't any more, such as one whose profile is gone: this machine's fault."""
 
 
 class Editions(Protocol):
@@ -36,9 +41,14 @@ class Houses:
         return str(self.book.journal.value("SELECT text FROM house WHERE id = ?", house))
 
     def get(self, house: int) -> Any:
-        """Returns a house file that was in force, parsed."""
+        """Returns a house file that was in force, parsed; raises Unreadable where what it names is gone."""
         if house not in self.parsed:
-            self.parsed[house] = self.editions.house_of(self.text(house), self.file)
+            try:
+                self.parsed[house] = self.editions.house_of(self.text(house), self.file)
+            except self.editions.Fault as error:
+                raise Unreadable(
+                    errno.EINVAL, f"the house file in force can't be read any more: {error}"
+                ) from None
         return self.parsed[house]
 
     def of(self, edition: int) -> Any:
@@ -49,9 +59,12 @@ class Houses:
         return int(self.book.journal.value("SELECT house FROM edition WHERE id = ?", edition))
 
     def now(self) -> "tuple[int, Any] | None":
-        """Returns the house for new editions, its row first, or None where none was good yet."""
+        """Returns the house for new editions, its row first, or None where none was good yet, or is any more."""
         row = self.book.journal.value("SELECT house FROM spool")
-        return None if row is None else (row, self.get(row))
+        try:
+            return None if row is None else (row, self.get(row))
+        except Unreadable:
+            return None
 
 
 def planned_of(book: Book, edition: int) -> Planned:

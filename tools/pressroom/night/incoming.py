@@ -36,7 +36,8 @@ class Incoming:
         self.book, self.folders, self.houses = book, folders, all_houses
         self.quiet: dict[str, float] = {}
         self.kept: set[str] = set()  # files that can't be removed, by stamp
-        self.told: dict[str, str] = {}  # why an edition doesn't begin
+        self.told: dict[str, tuple[str, float]] = {}  # why an edition doesn't begin, and since when
+        self.own_read: set[str] = set()  # the editions' own files that this service read, by stamp
         self.other_day: dict[str, str] = {}  # why pages aren't taken that lie beside a file of another date
         self.queue: list[tuple[str, Found]] = []
         self.copying: Copying | None = None
@@ -62,6 +63,8 @@ class Incoming:
             if grabbed and not any(isinstance(item, Found) for item in items):
                 clear.drop(folder)
         self.quiet = seen
+        names = {item.edition for _, item in queue}
+        self.told = {name: told for name, told in self.told.items() if name in names}
         self.kept &= set(seen)
         # An edition's own file comes before its pages.
         self.queue = sorted(queue, key=lambda pair: not pair[1].name.endswith(b"/" + OWN))
@@ -74,7 +77,8 @@ class Incoming:
         if not self.queue:
             return False
         folder, found = self.queue.pop(0)
-        if pages.is_seen(self.book, found.stamp):
+        is_own = found.name.endswith(b"/" + OWN) and found.stamp not in self.own_read
+        if pages.is_seen(self.book, found.stamp) and not is_own:
             self.clear(folder, found)
         elif pauses.is_over(self.book, "take", found.stamp):
             self.begin(folder, found)
@@ -89,6 +93,12 @@ class Incoming:
             return
         except take.NotTaken as error:
             pages.unfit(self.book, Unfit(found.edition, found.name, found.stamp, str(error)))
+            return
+        if self.is_cancelled(found.edition):
+            why = f"{found.edition} is cancelled"
+            self.own_read.add(found.stamp)
+            if not pages.is_seen(self.book, found.stamp):
+                pages.unfit(self.book, Unfit(found.edition, found.name, found.stamp, why))
             return
         edition = self.edition_of(found.edition, own)
         if edition is None:
@@ -105,11 +115,9 @@ class Incoming:
 
     def edition_of(self, name: str, own: bytes | None) -> int | None:
         """Returns the row of a folder's edition, which begins if it wasn't known; None where it can't begin."""
-        row = self.book.journal.row(
-            "SELECT id, state FROM edition WHERE name = ? AND state <> 'closed'", name
-        )
+        row = self.book.journal.row("SELECT id FROM edition WHERE name = ? AND state <> 'closed'", name)
         if row is not None:
-            return int(row["id"]) if row["state"] == "open" else None
+            return int(row["id"])
         now = self.houses.now()
         if now is None:
             return None
@@ -122,10 +130,14 @@ class Incoming:
         self.told.pop(name, None)
         return begin.begin(self.book, planned, now[0], text)
 
+    def is_cancelled(self, name: str) -> bool:
+        sql = "SELECT 1 FROM edition WHERE name = ? AND state = 'cancelled'"
+        return self.book.journal.value(sql, name) is not None
+
     def refuse(self, name: str, fault: str) -> None:
         """Tells once why an edition can't begin as it is."""
-        if self.told.get(name) != fault:
-            self.told[name] = fault
+        if self.told.get(name, ("", 0.0))[0] != fault:
+            self.told[name] = fault, self.book.now()
             with self.book.journal.transaction():
                 self.book.tell("edition_refused", fault=shown(fault))
 
@@ -136,6 +148,7 @@ class Incoming:
         assert row is not None
         if row["toml"] is not None and row["toml"].encode() == own:
             self.other_day.pop(row["name"], None)
+            self.told.pop(row["name"], None)
             self.enter_own(edition, found)
             return
         try:
@@ -143,20 +156,31 @@ class Incoming:
         except (self.houses.editions.Fault, UnicodeDecodeError, OSError) as error:
             self.refuse(row["name"], f"{row['name']}/edition.toml: {error}")
             return
+        self.told.pop(row["name"], None)
+        self.own_read.add(found.stamp)
         if day != row["day"]:
             self.other_day[row["name"]] = f"for {day}, and {row['name']} of {row['day']} is under way"
+        if pages.is_seen(self.book, found.stamp):
+            return
         with self.book.journal.transaction():
             pages.see(self.book, found.stamp, edition, found.name, "same")
             self.book.tell("changed", edition=row["name"], day=day)
 
     def enter_own(self, edition: int, found: Found) -> None:
         """Notes that an edition's own file was read."""
+        self.own_read.add(found.stamp)
+        if pages.is_seen(self.book, found.stamp):
+            return
         with self.book.journal.transaction():
             pages.see(self.book, found.stamp, edition, found.name, "same")
 
     def take_page(self, folder: str, found: Found, edition: int, name: bytes) -> None:
         """Begins to copy a page, or tells that it is none of this edition."""
-        house = self.houses.of(edition)
+        try:
+            house = self.houses.of(edition)
+        except houses.Unreadable as error:
+            self.wait(found, error)
+            return
         page = self.houses.editions.place_of(house, houses.planned_of(self.book, edition), name)
         if page is None:
             pages.stray(self.book, edition, found)

@@ -10,7 +10,7 @@ import socket
 import subprocess
 import sys
 import time
-from collections.abc import Mapping, Sequence
+from collections.abc import Callable, Mapping, Sequence
 from typing import Any
 
 from pressroom.night import family, sandbox, wire
@@ -84,16 +84,21 @@ class Job:
 class Runner:
     """Starts jobs: by the sockets of `run`, where it has them, or as children.
 
-    `spool` is the folder of the spool, `program` the path of plateroom, `targets` are folders of sites into
-    which a job may write, and `held` handles that children inherit, except those of strangers' pages: such
+    `spool` is the folder of the spool, `program` the path of plateroom, `targets` returns the folders of sites
+    into which a job may write, and `held` handles that children inherit, except those of strangers' pages: such
     as one with a lock for as long as any of them runs.
     """
 
     def __init__(
-        self, spool: str, run: str, program: str, targets: Sequence[str] = (), held: Sequence[int] = ()
+        self,
+        spool: str,
+        run: str,
+        program: str,
+        targets: Callable[[], Sequence[str]] = tuple,
+        held: Sequence[int] = (),
     ):
         self.spool, self.run = os.path.abspath(spool), os.path.abspath(run)
-        self.program, self.targets, self.held = os.path.abspath(program), list(targets), list(held)
+        self.program, self.targets, self.held = os.path.abspath(program), targets, list(held)
         self.number = 0
 
     def socket_of(self, kind: Kind) -> str:
@@ -148,7 +153,7 @@ class Runner:
         words = sandbox.limited(kind)
         if sandbox.has_rooms():
             needed = [TOOLS, *([self.program] if kind == "plates" else [])]
-            words += sandbox.room(kind, self.spool, scratch, needed, self.targets)
+            words += sandbox.room(kind, self.spool, scratch, needed, self.targets())
         words += [sys.executable, "-B", "-m", "pressroom.night.job", kind]
         return subprocess.Popen(
             words,

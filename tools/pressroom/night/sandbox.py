@@ -97,7 +97,8 @@ def room(kind: Kind, spool: str, scratch: str, needed: Sequence[str], targets: S
         shown += [word for path in hidden for word in ("--tmpfs", path)]
         # After /dev, since a spool may be in memory, below /dev/shm.
         shown += ["--dev", "/dev", "--proc", "/proc", *bound("--ro-bind", [os.path.join(spool, "plates")])]
-        shown += bound("--bind", [scratch, *targets])
+        # A folder that isn't there is that site's fault, and no reason that jobs for other sites don't begin.
+        shown += [*bound("--bind", [scratch]), *bound("--bind-try", targets)]
     else:
         shown = ["--unshare-all", "--ro-bind", "/usr", "/usr"]
         shown += [word for name in LINKS for word in ("--symlink", f"usr/{name}", f"/{name}")]

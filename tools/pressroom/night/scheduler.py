@@ -15,8 +15,6 @@ HOURLY, BEFORE_COMPLETE = 3600.0, 600.0
 BETWEEN = 30.0
 # The most folders of one look.
 MOST_FOLDERS = 60
-# A pair that must leave within this many seconds and can't is told as late.
-WARNING = 900.0
 LAST = 9e18
 
 
@@ -258,29 +256,3 @@ def next_look(book: Book, timeout: float) -> float | None:
     rows = book.journal.rows("SELECT state, seen FROM version WHERE state IN ('sent', 'unknown')")
     times = [due_at(row["state"], row["seen"], timeout) - book.uptime() for row in rows]
     return max(0.0, min(times)) if times else None
-
-
-def tell_late(book: Book) -> None:
-    """Tells each pair once that must leave soon and waits for its pages."""
-    rows = book.journal.rows(
-        "SELECT n.pair, n.leave_by, e.name, s.name AS site, p.section, p.number, p.left, p.right, n.left_state, n.right_state"
-        " FROM pair_now n JOIN pair p ON p.id = n.pair JOIN site s ON s.id = n.site JOIN edition e ON e.id = n.edition"
-        " WHERE e.state = 'open' AND n.leave_by < ? AND NOT p.warned AND NOT n.may_leave",
-        book.now() + WARNING,
-    )
-    if not rows:
-        return
-    with book.journal.transaction() as db:
-        for row in rows:
-            db.execute("UPDATE pair SET warned = 1 WHERE id = ?", [row["pair"]])
-            waits = [
-                f"{book.page_name(row[side])} ({row[side + '_state']})"
-                for side in ("left", "right")
-                if row[side + "_state"] != "ready"
-            ]
-            about = {
-                "edition": row["name"],
-                "site": row["site"],
-                "pair": f"{row['section']}-{row['number']:03}",
-            }
-            book.tell("late", **about, leave_by=row["leave_by"], waits_for=waits)

@@ -19,10 +19,9 @@ import time
 
 from pressroom.base.ask import program_path
 from pressroom.base.command_line import Parser
-from pressroom.night import begin, edition, houses
+from pressroom.night import edition, house_file, houses
 from pressroom.night.book import Book
 from pressroom.night.folders import Folders
-from pressroom.night.night_keys import NightHouse
 from pressroom.night.journal import Busy, Journal, Unusable
 from pressroom.night.runner import Runner
 from pressroom.night.service import Output, Service, watch_signals
@@ -53,17 +52,26 @@ def leave(status: int, text: str) -> int:
     return status
 
 
-def targets_of(house: NightHouse) -> list[str]:
-    """Returns the mounted folders of sites, into which jobs may write."""
-    return [target["target"] for target in house.targets.values() if target["name"] == "folder"]
+def targets_of(book: Book, all_houses: houses.Houses) -> list[str]:
+    """Returns the folders of sites on this machine, into which jobs may write: by the house in force, and by those of
+    the editions under way."""
+    now, found = all_houses.now(), {}
+    for row in book.journal.rows("SELECT DISTINCT house FROM edition WHERE state = 'open'"):
+        try:
+            found[row[0]] = all_houses.get(row[0])
+        except houses.Unreadable:
+            continue
+    some = [*found.values(), *([now[1]] if now is not None else [])]
+    paths = (target["target"] for house in some for target in house.targets.values())
+    return list(dict.fromkeys(path for path in paths if path.startswith("/")))
 
 
 def main() -> int:
     """Runs the service. Returns its status."""
     words = parser().parse_args()
-    house_file = os.path.abspath(words.house)
-    if is_below(house_file, words.spool):
-        return leave(CANT_BEGIN, f"{house_file} is in the spool, where uploaders write: it must be elsewhere")
+    house_path = os.path.abspath(words.house)
+    if is_below(house_path, words.spool):
+        return leave(CANT_BEGIN, f"{house_path} is in the spool, where uploaders write: it must be elsewhere")
     if is_old(words.spool):
         return leave(SPOOL_FAULT, OLD)
     program = program_path(words.program)
@@ -71,12 +79,10 @@ def main() -> int:
     if found is None:
         return leave(CANT_BEGIN, f"{program} isn't installed")
     os.environ["PLATEROOM"] = os.path.abspath(found)
-    try:
-        text = houses.read_house(house_file)
-        house = edition.house_of(text, house_file)
-    except (OSError, ValueError, edition.Fault) as error:
-        return leave(CANT_BEGIN, str(error) if isinstance(error, edition.Fault) else f"{house_file}: {error}")
     folders = Folders(words.spool)
+    fault = fault_of_house(house_path)
+    if fault is not None and not os.path.exists(folders.path("journal", "night.db")):
+        return leave(CANT_BEGIN, fault)
     try:
         folders.make()
         journal = open_journal(folders)
@@ -85,15 +91,30 @@ def main() -> int:
     except (OSError, Unusable) as error:
         return leave(SPOOL_FAULT, str(error))
     book = Book(journal, edition)
-    begin.enter_house(book, text)
+    all_houses = houses.Houses(book, edition, house_path)
+    fault = house_file.see(book, all_houses)
+    if all_houses.now() is None:
+        journal.close()
+        return leave(CANT_BEGIN, fault or "the house file in force can't be read any more")
+    if fault is not None:
+        leave(CANT_BEGIN, f"{fault}; the last good house file stays")
     runner = Runner(
         folders.spool,
         run_folder(folders.spool),
         os.environ["PLATEROOM"],
-        targets=[*targets_of(house), folders.path("out")],
+        targets=lambda: [*targets_of(book, all_houses), folders.path("out")],
         held=[journal.lock],
     )
-    return serve(book, folders, houses.Houses(book, edition, house_file), runner, words)
+    return serve(book, folders, all_houses, runner, words)
+
+
+def fault_of_house(path: str) -> str | None:
+    """Returns why a house file can't be used, or None."""
+    try:
+        edition.house_of(houses.read_house(path), path)
+    except (OSError, ValueError, edition.Fault) as error:
+        return str(error) if isinstance(error, edition.Fault) else f"{path}: {error}"
+    return None
 
 
 def open_journal(folders: Folders) -> Journal:

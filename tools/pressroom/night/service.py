@@ -14,7 +14,20 @@ from collections.abc import Callable
 from dataclasses import dataclass
 from typing import Any, TextIO
 
-from pressroom.night import apply, begin, events, gauges, houses, pauses, retire, scheduler, status, versions
+from pressroom.night import (
+    apply,
+    events,
+    gauges,
+    house_file,
+    houses,
+    late,
+    pauses,
+    retire,
+    scheduler,
+    status,
+    versions,
+    waits,
+)
 from pressroom.night.asked import Asked
 from pressroom.night.book import Book
 from pressroom.night.desk import Answer
@@ -174,42 +187,12 @@ class Service:
 
     def see_house(self) -> None:
         """Reads the house file if it changed. One that can't be used is told, and the last good one stays."""
-        try:
-            text = houses.read_house(self.houses.file)
-            if not text.strip():
-                raise ValueError("it is empty")
-            now = self.houses.now()
-            if now is not None and self.houses.text(now[0]) == text:
-                return
-            house = self.houses.editions.house_of(text, self.houses.file)
-            self.need_sites(house)
-        except (OSError, ValueError, self.houses.editions.Fault) as error:
-            fault = (
-                str(error)
-                if isinstance(error, self.houses.editions.Fault)
-                else f"{self.houses.file}: {error}"
-            )
-            begin.refuse_house(self.book, fault)
-            return
-        begin.enter_house(self.book, text)
-
-    def need_sites(self, house: Any) -> None:
-        """Raises ValueError if a house lacks a site, or its delivery, of an edition that is under way."""
-        rows = self.book.journal.rows(
-            "SELECT DISTINCT s.name, e.id FROM site s JOIN edition e ON e.id = s.edition WHERE e.state = 'open' ORDER BY s.name"
-        )
-        has = {site.name for site in house.house.sites}
-        for row in rows:
-            if row["name"] not in has:
-                raise ValueError(f"sites.{row['name']} is missing, and an edition under way has it")
-            was = self.houses.editions.method(self.houses.of(row["id"]), row["name"])
-            if was is not None and self.houses.editions.method(house, row["name"]) is None:
-                raise ValueError(f"delivery.sites.{row['name']} is missing, and an edition under way has it")
+        house_file.see(self.book, self.houses)
 
     def see_late(self) -> None:
         """Tells pairs that will be late, and waits that last too long."""
-        scheduler.tell_late(self.book)
-        self.tell_alerts()
+        waits.forget(self.book, None if self.scan_fault else self.incoming.quiet)
+        late.tell_late(self.book)
         open_editions = [
             row[0] for row in self.book.journal.rows("SELECT id FROM edition WHERE state = 'open'")
         ]
@@ -217,6 +200,7 @@ class Service:
         self.book.journal.keep_reserve()
         house = self.houses.now()
         if house is not None:
+            waits.tell_alerts(self.book, house[1].night.alert)
             retire.retire(self.book, self.folders, house[1].night.keep)
             self.write_gauges(house[1].night.metrics)
 
@@ -231,23 +215,6 @@ class Service:
                 self.gauges_fault = str(error)
                 with self.book.journal.transaction():
                     self.book.tell("alert", why=f"metrics can't be written: {error}")
-
-    def tell_alerts(self) -> None:
-        """Tells each wait once that lasts longer than the house's time."""
-        house = self.houses.now()
-        if house is None:
-            return
-        rows = self.book.journal.rows(
-            "SELECT * FROM pause WHERE NOT alerted AND since < ?", self.book.now() - house[1].night.alert
-        )
-        for row in rows:
-            with self.book.journal.transaction() as db:
-                db.execute(
-                    "UPDATE pause SET alerted = 1 WHERE kind = ? AND key = ?", [row["kind"], row["key"]]
-                )
-                name = row["key"] if row["kind"] == "site" else None
-                lasts = events.lasted(self.book.now() - row["since"])
-                self.book.tell("alert", site=name, why=f"waits since {lasts}: {row['why']}")
 
     def copy(self) -> None:
         """Copies the journal each hour."""
@@ -291,6 +258,7 @@ class Service:
             scan_seconds=self.scan_seconds,
             scan_fault=self.scan_fault,
             least_free=least,
+            refused=self.incoming.told,
         )
 
     def apply(self, edition: str, dry: bool, who: str) -> Answer:

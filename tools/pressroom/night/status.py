@@ -4,7 +4,7 @@ Times are ISO 8601 with zone; what is unknown is None, never left out. All of it
 says what the service itself acts on. `status_parts.py` has the lists of an edition.
 """
 import os
-from collections.abc import Collection
+from collections.abc import Collection, Mapping
 from dataclasses import dataclass, field
 from typing import Any
 
@@ -30,7 +30,9 @@ class Live:
     scan_seconds: float = 0.0
     scan_fault: str | None = None
     least_free: float = 0.0
-    links_down: dict[str, float] = field(default_factory=dict)
+    refused: Mapping[str, tuple[str, float]] = field(
+        default_factory=dict
+    )  # editions that can't begin: why, since when
 
 
 def status(book: Book, live: Live, name: str | None = None) -> State:
@@ -40,7 +42,7 @@ def status(book: Book, live: Live, name: str | None = None) -> State:
         f"SELECT * FROM edition WHERE state <> 'closed'{where} ORDER BY id DESC", *values
     )
     editions = [edition(book, live, row) for row in rows]
-    common = [fault for fault in machine_faults(book)]
+    common = machine_faults(book) + wrong.refused_faults(book, live.refused)
     counts = {
         "editions": len(editions),
         "under_way": sum(one["state"] == "under-way" for one in editions),

@@ -1,9 +1,11 @@
 """What is wrong in an edition, what waits for a person, and which pair must leave next: each by the time to leave."""
-from collections.abc import Sequence
+import datetime
+import json
+from collections.abc import Mapping, Sequence
 from typing import Any
 
 from pressroom.night import events
-from pressroom.night.book import Book
+from pressroom.night.book import Book, pair_name
 from pressroom.night.status_parts import fault_id
 
 State = dict[str, Any]
@@ -19,9 +21,8 @@ def deadline(made: Sequence[State], name: str | None) -> str | None:
     times = [
         site["leave_by"]
         for pair in made
-        if name in (pair["pair"], *pair["pages"])
         for site in pair["sites"]
-        if site["leave_by"]
+        if site["leave_by"] and name in (pair["pair"], *site["pages"])
     ]
     return min(times, default=None)
 
@@ -62,7 +63,54 @@ def faults(book: Book, edition: int, found: Sequence[State], made: Sequence[Stat
             site = book.journal.row("SELECT name, edition FROM site WHERE id = ?", int(row["key"]))
             if site is not None and site["edition"] == edition:
                 items.append(pause_fault(book, row, None, None, [site["name"]], None))
+    items += unknown_faults(book, edition, made)
     return by_deadline([item | {"edition": name} for item in items])
+
+
+def unknown_faults(book: Book, edition: int, made: Sequence[State]) -> list[State]:
+    """Returns the versions that may be at a site, where nothing is known to be wrong with the site."""
+    rows = book.journal.rows(
+        "SELECT v.id, v.moved, s.name, p.section, p.number FROM version v JOIN site s ON s.id = v.site JOIN pair p"
+        " ON p.id = v.pair WHERE s.edition = ? AND v.state = 'unknown' AND v.kind = 'plates' AND NOT EXISTS"
+        " (SELECT 1 FROM pause w WHERE w.kind = 'site' AND w.key = s.name) ORDER BY v.id",
+        edition,
+    )
+    found = []
+    for row in rows:
+        pair = pair_name(row["section"], row["number"])
+        about = {"pair": pair, "sites": [row["name"]], "leave_by": deadline(made, pair)}
+        text = f"version {row['id']:06} may be there: nobody knows whether READY came"
+        more = {"since": events.iso(row["moved"]), "next": "The site is looked at.", "needs": "waiting"}
+        found.append(
+            plain_fault("delivery-unknown", fault_id("unknown", str(row["id"])), text) | about | more
+        )
+    return found
+
+
+def plain_fault(kind: str, name: str, text: str) -> State:
+    """Returns a fault that is of no page."""
+    keys = ("since", "edition", "page", "pair", "file", "place", "next", "leave_by", "tries", "retry_at")
+    return {"id": name, "kind": kind, "text": text, "sites": [], "needs": "person"} | dict.fromkeys(keys)
+
+
+def refused_faults(book: Book, editions: Mapping[str, tuple[str, float]]) -> list[State]:
+    """Returns why the house file, and editions that came, can't be used: until they are mended."""
+    found = []
+    row = book.journal.row(
+        "SELECT at, name, more FROM event WHERE name IN ('house', 'house_refused') ORDER BY seq DESC LIMIT 1"
+    )
+    if row is not None and row["name"] == "house_refused":
+        text = f"{json.loads(row['more'])['fault']}; the last good one stays"
+        more = {"since": events.iso(row["at"]), "next": "Correct the house file."}
+        found.append(plain_fault("house-refused", fault_id("house", text), text) | more)
+    for name, (fault, since) in sorted(editions.items()):
+        more = {
+            "since": events.iso(since),
+            "edition": name,
+            "next": f"Correct {name}/edition.toml or the house file.",
+        }
+        found.append(plain_fault("edition-refused", fault_id("edition", name), fault) | more)
+    return found
 
 
 def page_fault(page: State, made: Sequence[State]) -> State:
@@ -147,15 +195,13 @@ def next_pair(book: Book, made: Sequence[State], places: Sequence[State]) -> Sta
         return None
     stopped.sort(key=lambda item: (item[0], item[1]))
     leave_by, pair, site = stopped[0]
-    raw = book.journal.value(
-        "SELECT min(p.leave_by) FROM pair p JOIN pair_now n ON n.pair = p.id WHERE NOT n.may_leave AND n.edition_state = 'open'"
-    )
+    seconds = datetime.datetime.fromisoformat(leave_by).timestamp() - book.now()
     start = next(place["press_start"] for place in places if place["name"] == site["site"])
     return {
         "pair": pair,
         "site": site["site"],
         "leave_by": leave_by,
-        "seconds": None if raw is None else round(raw - book.now()),
+        "seconds": round(seconds),
         "waits_for": site["waits_for"],
         "press_start": start,
         "then": [{"pair": p, "site": s["site"], "leave_by": by} for by, p, s in stopped[1:4]],

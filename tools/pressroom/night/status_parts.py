@@ -77,6 +77,7 @@ def pair_at_site(book: Book, busy: Collection[str], row: Any, pages: Sequence[st
     is_there = state in ("sent", "acknowledged")
     return {
         "site": row["site_name"],
+        "pages": list(pages),
         "state": state,
         "since": events.iso(since),
         "version": row["there"] if is_there else row["open"],
@@ -94,8 +95,10 @@ def pair_state(book: Book, busy: Collection[str], row: Any) -> tuple[str, float 
     """Returns a pair's state at a site, since when, and the id of a fault that stops it."""
     if row["open"] is not None:
         paused = has_pause(book, "site", row["site_name"])
-        if row["open_state"] == "unknown" or paused:
+        if paused:
             return "failed", row["open_moved"], fault_id("site", row["site_name"])
+        if row["open_state"] == "unknown":
+            return "failed", row["open_moved"], fault_id("unknown", str(row["open"]))
         return "queued", row["open_moved"], None
     if row["there"] is not None and row["may_leave"] and row["there_sums"] == row["sums"]:
         return (
@@ -143,8 +146,8 @@ def pages(book: Book, edition: int, made: Sequence[State]) -> list[State]:
 def page(book: Book, row: Any, made: Sequence[State]) -> State:
     """Returns one page."""
     name = str(PageKey(row["zone"], row["section"], row["number"]))
-    mine = [(pair["pair"], site) for pair in made if name in pair["pages"] for site in pair["sites"]]
-    state = page_state(row, [site["state"] for _, site in mine])
+    mine = [(pair["pair"], site) for pair in made for site in pair["sites"] if name in site["pages"]]
+    state = page_state(row, [site for _, site in mine])
     approved = row["verdict"] == "approved"
     version = book.journal.value(
         "SELECT count(*) FROM arrival WHERE place = ? AND id <= ?", row["place"], row["newest"] or 0
@@ -177,7 +180,7 @@ def held(row: Any) -> State:
     return {"by": row["held_by"], "at": events.iso(row["held_at"]), "reason": row["held_word"] or None}
 
 
-def page_state(row: Any, at_sites: Sequence[str]) -> str:
+def page_state(row: Any, at_sites: Sequence[State]) -> str:
     """Returns a page's state. A newest file that is refused shows as such, even while an older one is in force."""
     if row["newest_state"] == "refused" or row["state"] in ("refused", "rejected"):
         return "refused"
@@ -185,9 +188,9 @@ def page_state(row: Any, at_sites: Sequence[str]) -> str:
         return str(row["state"])
     if row["state"] == "asks":
         return "approval"
-    if at_sites and all(state in ("verified", "queued", "sent", "acknowledged") for state in at_sites):
+    if at_sites and all(site["plates"] is not None for site in at_sites):
         return "made"
-    return "making" if "making" in at_sites else "arrived"
+    return "making" if any(site["state"] == "making" for site in at_sites) else "arrived"
 
 
 # ---- sites and sections

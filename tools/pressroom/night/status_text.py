@@ -78,9 +78,10 @@ def fault(one: State) -> str:
         for part in (one["page"] or one["pair"], ", ".join(one["sites"]) if not one["page"] else None)
         if part
     )
+    about = f"{about}: " if about else ""
     place = f" at {one['place']}" if one["place"] else ""
     file = f" ({one['file']})" if one["file"] else ""
-    return f"  ! {about}: {one['text']}{place}{file}. {one['next']}"
+    return f"  ! {about}{one['text']}{place}{file}. {one['next']}"
 
 
 def ask(one: State) -> str:

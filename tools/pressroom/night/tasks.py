@@ -344,5 +344,8 @@ def longest_timeout(room: Room, editions: Iterable[int]) -> float:
     found = [0.0]
     for edition in editions:
         for row in room.book.journal.rows("SELECT name FROM site WHERE edition = ?", edition):
-            found.append(timeout_of(room, edition, row["name"]))
+            try:
+                found.append(timeout_of(room, edition, row["name"]))
+            except houses.Unreadable:
+                continue
     return max(found)

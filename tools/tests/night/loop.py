@@ -10,7 +10,7 @@ from types import SimpleNamespace
 from typing import Any
 
 import evening
-from pressroom.night import begin, houses
+from pressroom.night import house_file, houses
 from pressroom.night.book import Book
 from pressroom.night.folders import Folders
 from pressroom.night.journal import Journal
@@ -224,9 +224,9 @@ class World:
             lambda: self.clock.up,
             "boot",
         )
-        begin.enter_house(book, houses.read_house(file))
-        self.printed = io.StringIO()
         all_houses = houses.Houses(book, Editions(), file)
+        house_file.see(book, all_houses)
+        self.printed = io.StringIO()
         self.service = Service(book, folders, all_houses, self, folders.path("run"), Output(self.printed))
         self.service.start()
         return self.service

@@ -112,7 +112,7 @@ def test_a_hold_says_where_it_is_too_late(night):
     versions.sending(night.book, first)
     assert versions.leaving(night.book, first)
     answer = desk.hold(night.book, "MON", "A01", EVA)
-    assert answer.more == {"had_it": [], "may_be_out": ["OSLO"], "in_time": ["BERGEN", "TROMSO"]}
+    assert answer.more == {"had_it": [], "older": [], "may_be_out": ["OSLO"], "in_time": ["BERGEN", "TROMSO"]}
     versions.sent(night.book, first)
     versions.sending(night.book, second)
     # The pair of the held page doesn't leave any more, whatever was under way.

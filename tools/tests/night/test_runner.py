@@ -34,7 +34,7 @@ def way(spool: Path) -> Iterator[runner.Runner]:
     program = spool / "plateroom"
     program.write_text("#!/bin/sh\nexec sleep 100\n")
     program.chmod(0o755)
-    yield runner.Runner(str(spool), str(spool / "run"), str(program), [str(spool / "out")])
+    yield runner.Runner(str(spool), str(spool / "run"), str(program), lambda: [str(spool / "out")])
 
 
 def wait(job: runner.Job, seconds: float = 20) -> bool:
@@ -51,7 +51,7 @@ def tried(way: runner.Runner, kind: Kind, program: str, monkeypatch: pytest.Monk
     report = Path(way.spool) / "report"
     words = "import os, runpy, sys; print(eval(sys.argv[1]))"
     monkeypatch.setattr(sandbox, "LIMITS", dict(sandbox.LIMITS))
-    room = sandbox.room(kind, way.spool, os.path.join(way.spool, "scratch"), [], way.targets)
+    room = sandbox.room(kind, way.spool, os.path.join(way.spool, "scratch"), [], way.targets())
     full = [
         *sandbox.limited(kind),
         *(room if sandbox.has_rooms() else []),
@@ -206,6 +206,15 @@ def test_only_deliveries_have_a_network(
     others = [word for word in eval(said) if word.endswith(":") and word != "lo:"]
     here = [line.split()[0] for line in open("/proc/net/dev") if ":" in line and "lo:" not in line]
     assert others == (sorted(here) if has else [])
+
+
+@pytest.mark.skipif(not sandbox.has_rooms(), reason="bwrap isn't installed or not permitted")
+def test_a_site_s_folder_that_is_gone_stops_no_job_for_another(
+    way: runner.Runner, spool: Path, monkeypatch: pytest.MonkeyPatch
+) -> None:
+    way.targets = lambda: [str(spool / "out"), str(spool / "unmounted")]
+    said = tried(way, "send", f"os.access({str(spool / 'out')!r}, os.W_OK)", monkeypatch)
+    assert said == "True" and not (spool / "unmounted").exists()
 
 
 def test_what_is_missing_is_said(way: runner.Runner, monkeypatch: pytest.MonkeyPatch) -> None:

@@ -1,7 +1,7 @@
 """Versions: what begins, leaves, is seen, is lost, and when a site is complete."""
 import pytest
 from evening import digest, evening
-from pressroom.night import desk, pages, scheduler, versions
+from pressroom.night import desk, late, pages, scheduler, versions
 
 EVA = desk.Asker("eva")
 
@@ -127,7 +127,7 @@ def test_what_a_site_lost_is_sent_again(night):
     site = versions.get(night.book, 1)["site_name"]
     versions.looked(night.book, site, [1], {}, [], night.clock.up, 60.0)
     assert versions.get(night.book, 1)["state"] == "queued"
-    assert night.lines()[-1] == "MON OSLO A-001: version 000001 is gone from the site; it is sent again"
+    assert night.lines()[-1] == "MON OSLO A-001: version 000001 isn't there as it was sent; it is sent again"
 
 
 def test_complete_comes_last_and_only_after_all_was_verified_together(night):
@@ -219,13 +219,13 @@ def test_a_late_pair_is_told_once_before_it_is_late(tmp_path):
     some = evening(str(tmp_path / "journal"), start="23:30")
     some.page("A01", "one")
     some.lines()
-    scheduler.tell_late(some.book)
+    late.tell_late(some.book)
     assert some.lines() == []
-    some.clock.wall = some.one("SELECT min(leave_by) FROM pair") - scheduler.WARNING + 1
-    scheduler.tell_late(some.book)
+    some.clock.wall = some.one("SELECT min(leave_by) FROM pair") - late.WARNING + 1
+    late.tell_late(some.book)
     lines = some.lines()
     assert len(lines) == 3 and all("and waits for A04 (absent)" in line for line in lines)
-    scheduler.tell_late(some.book)
+    late.tell_late(some.book)
     assert some.lines() == []
 
 
