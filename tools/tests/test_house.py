@@ -9,7 +9,7 @@ from hypothesis import given, settings
 from hypothesis import strategies as st
 
 from pressroom.house.house import HouseFault, Place, read_house, read_keys, read_proof
-from pressroom.house.records import Mark, Screen, rows
+from pressroom.house.records import Deadline, Delivery, Mark, Night, Screen, rows
 from pressroom.house.toml_lines import KeyLines
 
 HOUSE = """edition = "E1"
@@ -180,11 +180,41 @@ def test_place_of(tmp_path: Path, text: str, place: Place | None) -> None:
 
 
 def test_a_house_of_the_night(tmp_path: Path) -> None:
-    """One file serves intake and the night: what belongs to the night is passed over, and {date} is the day."""
-    text = HOUSE.replace("[sites.OSLO]", '[sites.OSLO]\npress_start = "23:30"\nlead = 10', 1)
+    """One file serves intake and the night, and {date} is the day."""
+    house = read_house(written(tmp_path, of_the_night()))
+    assert re.fullmatch(r"DAY\d{8}", house.edition)
+    assert house.night == Night(approve=True, date="2026-12-03")
+    assert house.sites[0].deadline == Deadline(press_start="23:30", lead=10)
+    assert house.delivery == Delivery() and house.targets == {"OSLO": "oslo:plates"}
+    assert house.zone_pages == {"west": ("A02",)}
+
+
+def of_the_night() -> str:
+    """A house file with the night's tables."""
+    text = HOUSE.replace("[sites.OSLO]", '[sites.OSLO]\nzone = "west"\npress_start = "23:30"\nlead = 10', 1)
     text = re.sub(r'edition = "\w+"', 'edition = "DAY{date}"', text)
-    text += '\n[night]\napprove = true\n[delivery.sites]\nOSLO = "oslo:plates"\n[zones]\nwest = ["A02"]\n'
-    assert re.fullmatch(r"DAY\d{8}", read_house(written(tmp_path, text)).edition)
+    text += "\n[night]\napprove = true\ndate = 2026-12-03\n"
+    return text + '[delivery.sites]\nOSLO = "oslo:plates"\n[zones]\nwest = ["A02"]\n'
+
+
+@pytest.mark.parametrize(
+    ("old", "new", "pattern"),
+    [
+        ("approve = true", "aprove = true", r"night\.aprove: isn't a key of a house file; the keys here are"),
+        ("2026-12-03", '"2026-02-30"', r"night\.date: '2026-02-30' isn't a date"),
+        ('"23:30"', "23:30:00", r"sites\.OSLO\.press_start: .* isn't a time"),
+        ('OSLO = "', 'HAMAR = "', r"delivery\.sites\.HAMAR: isn't a site of this house; they are OSLO"),
+        ('"oslo:plates"', '"-e sh"', r"delivery\.sites\.OSLO: '-e sh' isn't a target"),
+        ('west = ["A02"]', 'east = ["A02"]', r"zones\.east: no site has this zone; they are west"),
+        ('west = ["A02"]', "west = 2", r"zones\.west: 2 isn't a list of pages"),
+    ],
+)
+def test_fault_of_the_nights_tables(tmp_path: Path, old: str, new: str, pattern: str) -> None:
+    """Every command that reads the house file tests the night's tables too."""
+    text = of_the_night()
+    line = text[: text.index(old)].count("\n") + 1
+    lines = faults(written(tmp_path, text.replace(old, new)))
+    assert len(lines) == 1 and re.search(rf"line {line}: {pattern}", lines[0]), lines
 
 
 @pytest.mark.parametrize(("text", "line"), PROOF)

@@ -6,6 +6,7 @@ import os
 import shutil
 import signal
 import subprocess
+from collections.abc import Sequence
 from dataclasses import dataclass
 
 # The most that a program may print, in bytes. Its output is read whole.
@@ -28,7 +29,7 @@ class Limits:
     memory: int = 2000
     output: int = 4000
 
-    def run(self, words, folder, name=None):
+    def run(self, words: Sequence[str], folder: str, name: str | None = None) -> tuple[int, bytes, bytes]:
         """Runs a program in this folder. Returns its status, and its standard output and standard error as
         bytes. Messages call it `name`, which is by default the name of the program.
 
@@ -58,11 +59,11 @@ class Limits:
                 stop(process)
         if any(os.path.getsize(path) > MOST_TEXT for path in paths):
             raise Passed(f"{name} printed more than {MOST_TEXT >> 20} MB")
-        texts = [read(path) for path in paths]
-        self.see(name, status, b"".join(texts), folder)
-        return status, *texts
+        printed, said = map(read, paths)
+        self.see(name, status, printed + said, folder)
+        return status, printed, said
 
-    def see(self, name, status, said, folder):
+    def see(self, name: str, status: int, said: bytes, folder: str) -> None:
         """Raises Passed if the program exceeded a limit or was killed by a signal."""
         if status == -signal.SIGXCPU:
             raise PassedTime(f"{name} took more than {self.seconds} s of CPU time")
@@ -73,18 +74,19 @@ class Limits:
         if status < 0:
             raise Passed(f"{name} was killed by {signal.Signals(-status).name}")
 
-    def is_full(self, folder):
+    def is_full(self, folder: str) -> bool:
         """Returns whether a file in the folder has the largest size that files may have."""
         with os.scandir(folder) as items:
             return any(item.is_file() and item.stat().st_size >= self.output << 20 for item in items)
 
 
-def read(path):
+def read(path: str) -> bytes:
+    """Returns the bytes of a file."""
     with open(path, "rb") as file:
         return file.read()
 
 
-def stop(process):
+def stop(process: subprocess.Popen[bytes]) -> None:
     """Kills the process and its group."""
     try:
         os.killpg(process.pid, signal.SIGKILL)
@@ -93,7 +95,7 @@ def stop(process):
     process.wait()
 
 
-def environment(folder):
+def environment(folder: str) -> dict[str, str]:
     """Returns the environment of a program, reduced to what it needs."""
     kept = {name: os.environ[name] for name in ("PATH", "LANG") if name in os.environ}
     home = os.path.abspath(folder)
@@ -101,7 +103,7 @@ def environment(folder):
 
 
 @functools.cache
-def without_network():
+def without_network() -> list[str]:
     """Returns the arguments that start a program without a network; none if the machine forbids that."""
     if shutil.which("unshare"):
         for words in (["unshare", "--net"], ["unshare", "--user", "--net"]):

@@ -27,7 +27,7 @@ def folders() -> dict[str, str]:
     """Returns the paths that the environment and the file name. Raises HouseFault if the file is wrong."""
     found: dict[str, str] = {}
     if os.path.lexists(FILE):
-        keys = read_keys(FILE)
+        keys = read_keys(FILE, FILE)
         values = {name: keys.take(name, declared) for name, declared in KEYS.items()}
         keys.end()
         keys.faults.end()

@@ -1,5 +1,6 @@
 """What the keys of a house file accept. A form reads a value of TOML and returns it as the house keeps it, or
 raises Wrong, whose text has the value and says what the key accepts."""
+import datetime
 import re
 from collections.abc import Callable
 from dataclasses import dataclass
@@ -96,6 +97,16 @@ def read_truth(value: object) -> bool:
     return value
 
 
+def read_day(value: object) -> str:
+    """Reads a date of the calendar, as TOML's own or as text, and returns it as 2026-12-03."""
+    if isinstance(value, datetime.date) and not isinstance(value, datetime.datetime):
+        return value.isoformat()
+    try:
+        return datetime.date.fromisoformat(DAY_TEXT.read(value)).isoformat()
+    except ValueError:
+        raise wrong(value, DAY_TEXT.words) from None
+
+
 def read_colour(value: object) -> tuple[int, int, int]:
     """Reads a colour such as #d4002a as its red, green and blue of 0 to 255."""
     red, green, blue = bytes.fromhex(COLOUR_TEXT.read(value)[1:])
@@ -145,6 +156,12 @@ NAME = matching(r"[A-Za-z0-9_]{1,16}", "a name of 1 to 16 letters A to Z and a t
 EDITION = matching(
     r"[A-Za-z0-9_]{1,16}|(?=.{6,14}$)[A-Za-z0-9_]*\{date\}[A-Za-z0-9_]*",
     "a name of 1 to 16 letters A to Z and a to z, digits and _, in which {date} stands for eight digits",
+)
+DAY_TEXT = matching(r"\d{4}-\d\d-\d\d", "a date, such as 2026-12-03")
+DAY = Form(DAY_TEXT.words, read_day)
+TIME = matching(r"([01]\d|2[0-3]):[0-5]\d", 'a time, such as "23:30"')
+TARGET = matching(
+    r"[^-\x00-\x1f\x7f][^\x00-\x1f\x7f]{0,999}", 'a target, such as "oslo.example:plates" or "/mnt/oslo"'
 )
 LENGTH = number(0, 5000, "a length of 0 to 5000 mm")
 PERCENT = number(0, 400, "a limit of 0 to 400 percent")

@@ -1,8 +1,8 @@
 """Reads the house file, a TOML file with what a newspaper's editions have in common, and tests every key.
 
-`read_house(path)` returns a House. What belongs to proofs and presses is read by `read_proof`, and what belongs to the
-night (`night`, `delivery`, `zones`, the deadlines of sites) by pressroom.night.night_keys. Faults are raised as
-HouseFault, whose lines each name the file, the line and the key.
+`read_house(path)` returns a House; `house_of` that of keys that were read before. What belongs to proofs alone is read
+by `read_proof`. Faults are raised as HouseFault, whose lines each name the file, the line and the key. This is the only
+reader of TOML: `read_text` gives the keys of any file of TOML.
 """
 import dataclasses
 import datetime
@@ -26,9 +26,12 @@ from pressroom.house.records import (
     ZONE,
     Check,
     Colour,
+    Deadline,
+    Delivery,
     House,
     InkKeys,
     Mark,
+    Night,
     Place,
     Press,
     Screen,
@@ -39,10 +42,6 @@ from pressroom.house.records import (
 from pressroom.house.toml_lines import KeyLines
 
 __all__ = ["INKS", "LARGEST_TILE", "House", "HouseFault", "Place", "read_house", "read_proof"]
-# Tables that other commands read and test.
-OWN_OF_OTHERS = {"night", "delivery", "zones", "keys"}
-# Keys of a site that the night reads and tests.
-OWN_OF_NIGHT = {"press_start", "lead", "plate_seconds"}
 # The press of sites that name none, if the file describes no press.
 ONE_PRESS = "plan"
 MOST_BYTES = 1 << 18
@@ -50,34 +49,49 @@ MOST_BYTES = 1 << 18
 MANY_PARTS = re.compile(r"""(?<![\w-])(?:(?:[\w-]+|"[^"\n]*"|'[^'\n]*')[ \t]*\.[ \t]*){32}""")
 
 
-def read_keys(path: str) -> Keys:
+def read_keys(path: str, kind: str = "a house file") -> Keys:
     """Returns the keys of a TOML file. Raises HouseFault if it can't be read or isn't TOML."""
     try:
-        text = read_file(path, MOST_BYTES).decode("utf-8")
-        if MANY_PARTS.search(text):
-            raise HouseFault([f"{path}: not TOML: a key of more than 32 parts"])
-        tables = tomllib.loads(text)
-        lines = KeyLines(text.replace("\r\n", "\n"))
+        return read_text(read_file(path, MOST_BYTES).decode("utf-8"), path, kind)
     except Unreadable as error:
         raise HouseFault([str(error)]) from None
     except UnicodeDecodeError as error:
         line = error.object.count(b"\n", 0, error.start) + 1
         raise HouseFault([f"{path} line {line}: not UTF-8"]) from None
+
+
+def read_text(text: str, path: str, kind: str = "a house file") -> Keys:
+    """Returns the keys of a text in TOML; `path` and `kind` are the file in faults. Raises HouseFault."""
+    if len(text) > MOST_BYTES:
+        raise HouseFault([f"{path}: more than {MOST_BYTES} characters"])
+    if MANY_PARTS.search(text):
+        raise HouseFault([f"{path}: not TOML: a key of more than 32 parts"])
+    try:
+        tables = tomllib.loads(text)
+        lines = KeyLines(text.replace("\r\n", "\n"))
     except RecursionError:
         raise HouseFault([f"{path}: not TOML: too many levels"]) from None
-    except ValueError as error:
+    except tomllib.TOMLDecodeError as error:
         raise HouseFault([f"{path}: not TOML: {error}"]) from None
-    return Keys(tables, (), Faults(path, lines))
+    except ValueError:
+        raise HouseFault([f"{path}: not TOML: a number of too many digits"]) from None
+    return Keys(tables, (), Faults(path, lines, kind))
 
 
 def read_house(path: str) -> House:
     """Reads the house file at this path."""
-    keys = read_keys(path)
-    house = Reading(path, keys, keys.faults).house()
-    keys.faults.end()
-    assert house is not None
+    house = house_of(read_keys(path))
     today = datetime.date.today().strftime("%Y%m%d")
     return dataclasses.replace(house, edition=house.edition.replace("{date}", today))
+
+
+def house_of(keys: Keys, profile: str | None = None) -> House:
+    """Returns the house of these keys, whose edition has {date} as the file has it. `profile`, if given, is where the
+    file is that colour.profile names. Raises HouseFault."""
+    house = Reading(keys, profile).house()
+    keys.faults.end()
+    assert house is not None
+    return house
 
 
 def read_proof(path: str) -> tuple[str | None, tuple[int, int, int] | None, InkKeys | None]:
@@ -95,10 +109,10 @@ def read_proof(path: str) -> tuple[str | None, tuple[int, int, int] | None, InkK
 
 
 class Reading:
-    """Reads the tables of a house file."""
+    """Reads the tables of a house file. `profile`, if given, is where its profile is."""
 
-    def __init__(self, path: str, keys: Keys, faults: Faults) -> None:
-        self.path, self.keys, self.faults = path, keys, faults
+    def __init__(self, keys: Keys, profile: str | None = None) -> None:
+        self.path, self.keys, self.faults, self.profile = keys.faults.path, keys, keys.faults, profile
 
     def house(self) -> House | None:
         """Returns the house, or None if there are faults."""
@@ -110,13 +124,22 @@ class Reading:
         spot = self.spot() if "spot" in keys.table else None
         presses = self.presses(sheet["dpi"])
         sites = self.sites(presses)
+        if keys.inside("keys").table:
+            keys.inside("keys").whole(InkKeys)
+        night, zones = keys.inside("night").whole(Night), self.zones(sites)
+        delivery, targets = self.delivery(sites)
         house = None
-        if not self.faults.found and checked is not None:
+        if not self.faults.found:
+            assert checked and night
             house = self.with_blanks(
                 House(
                     **sheet,
                     **colour,
                     check=checked,
+                    night=night,
+                    delivery=delivery,
+                    zone_pages=zones,
+                    targets=targets,
                     path=self.path,
                     sections=sections,
                     spot=spot,
@@ -125,7 +148,7 @@ class Reading:
                 )
             )
             self.see_sizes(house)
-        keys.left -= OWN_OF_OTHERS | {"blank"}
+        keys.see("blank")
         keys.end()
         return house
 
@@ -150,7 +173,7 @@ class Reading:
         found, folder = keys.fill(Colour), os.path.dirname(os.path.abspath(self.path))
         if found["profile"] is not None:
             try:
-                found["profile"] = cmyk_profile(os.path.join(folder, found["profile"]))
+                found["profile"] = cmyk_profile(self.profile or os.path.join(folder, found["profile"]))
             except Wrong as error:
                 self.faults.add(keys.path + ("profile",), str(error))
         elif found["rgb"] == "convert" and "profile" not in keys.table:
@@ -227,14 +250,30 @@ class Reading:
         press = Key(known, "", next(iter(presses)) if len(presses) == 1 else REQUIRED)
         for name in tables.table:
             keys = tables.inside(name)
-            own = keys.take("press", press)
-            sites.append(Site(self.name(tables, name), own, keys.take("zone", ZONE)))
-            keys.left -= OWN_OF_NIGHT
+            own, zone, deadline = keys.take("press", press), keys.take("zone", ZONE), keys.fill(Deadline)
+            sites.append(Site(self.name(tables, name), own, zone, Deadline(**deadline)))
             keys.end()
         for unused in set(presses) - {site.press for site in sites}:
             if self.keys.table.get("press"):
                 self.faults.add(("press", unused), "no site uses this press")
         return tuple(sites)
+
+    def zones(self, sites: tuple[Site, ...]) -> dict[str, tuple[str, ...]]:
+        """Reads the pages that zones have of their own. Each zone is that of a site."""
+        return read_zones(self.keys, list(dict.fromkeys(site.zone for site in sites if site.zone)))
+
+    def delivery(self, sites: tuple[Site, ...]) -> tuple[Delivery, dict[str, str]]:
+        """Reads what ways to sites have in common, and the target of each site that has one."""
+        keys, known = self.keys.inside("delivery"), [site.name for site in sites]
+        common, inner = Delivery(**keys.fill(Delivery)), keys.inside("sites")
+        for name in inner.table:
+            if name not in known:
+                self.faults.add(
+                    inner.path + (name,), f"isn't a site of this house; they are {', '.join(known)}"
+                )
+        targets = {name: inner.take(name, OTHERS["delivery.sites.NAME"]) for name in inner.table}
+        keys.end()
+        return common, targets
 
     def with_blanks(self, house: House) -> House:
         """Returns the house with the places of its list `blank`."""
@@ -263,3 +302,14 @@ class Reading:
                     self.faults.add(
                         at + ("marks", number), words + f"{height * 25.4 / house.dpi:.1f} mm high"
                     )
+
+
+def read_zones(keys: Keys, zones: list[str]) -> dict[str, tuple[str, ...]]:
+    """Reads the table `zones`: the pages that each of these zones has of its own."""
+    inner = keys.inside("zones")
+    for zone in inner.table:
+        if zone not in zones:
+            inner.faults.add(
+                inner.path + (zone,), f"no site has this zone; they are {', '.join(zones) or 'none'}"
+            )
+    return {zone: inner.take(zone, OTHERS["zones.NAME"]) for zone in inner.table}

@@ -7,7 +7,7 @@ class.
 import dataclasses
 from collections.abc import Iterator, Mapping
 from dataclasses import dataclass
-from typing import Any, TypeVar
+from typing import Any, NoReturn, TypeVar
 
 from pressroom.base.faults import Fault
 from pressroom.house.forms import Form, Wrong, wrong
@@ -15,6 +15,8 @@ from pressroom.house.toml_lines import KeyLines
 
 T = TypeVar("T")
 Path = tuple[str | int, ...]
+# A fault lists the keys of a table that has fewer.
+MANY = 12
 # The default of a key that a file must have.
 REQUIRED: Any = object()
 
@@ -50,10 +52,10 @@ def keys_of(table: type) -> dict[str, Key]:
 
 
 class Faults:
-    """The faults of one file, sorted by line."""
+    """The faults of one file, sorted by line. `kind` is what the file is, in words."""
 
-    def __init__(self, path: str, lines: KeyLines) -> None:
-        self.path, self.lines = path, lines
+    def __init__(self, path: str, lines: KeyLines, kind: str = "a house file") -> None:
+        self.path, self.lines, self.kind = path, lines, kind
         self.found: list[tuple[int, str]] = []
 
     def add(self, path: Path, words: str, missing: str = "") -> None:
@@ -61,6 +63,12 @@ class Faults:
         line = self.lines.line(path)
         full = ".".join(map(str, path + ((missing,) if missing else ())))
         self.found.append((line, f"{self.path} line {line}: {full}: {words}"))
+
+    def stop(self, path: Path, words: str) -> NoReturn:
+        """Raises HouseFault with a fault at this path and all that were found before."""
+        self.add(path, words)
+        self.end()
+        raise AssertionError
 
     def end(self) -> None:
         """Raises HouseFault if there are faults."""
@@ -74,10 +82,11 @@ class Keys:
     def __init__(self, table: Mapping[str, Any], path: Path, faults: Faults) -> None:
         self.table, self.path, self.faults = table, path, faults
         self.left = set(table)
+        self.known: list[str] = []
 
     def take(self, name: str, declared: Key) -> Any:
         """Returns the value of a key, its default if absent, or None if it's wrong."""
-        self.left.discard(name)
+        self.see(name)
         if name not in self.table:
             if declared.default is REQUIRED:
                 self.faults.add(self.path, "is missing", name)
@@ -106,7 +115,7 @@ class Keys:
 
     def inside(self, name: str) -> "Keys":
         """Returns the keys of a table within this one. An absent table is empty."""
-        self.left.discard(name)
+        self.see(name)
         table = self.table.get(name, {})
         if not isinstance(table, dict):
             self.faults.add(self.path + (name,), str(wrong(table, "a table")))
@@ -115,7 +124,7 @@ class Keys:
 
     def each(self, name: str) -> Iterator["Keys"]:
         """Yields the keys of each table in a list of tables."""
-        self.left.discard(name)
+        self.see(name)
         items = self.table.get(name, [])
         if not isinstance(items, list) or not all(isinstance(item, dict) for item in items):
             self.faults.add(self.path + (name,), str(wrong(items, "a list of tables")))
@@ -123,8 +132,15 @@ class Keys:
         for place, item in enumerate(items):
             yield Keys(item, self.path + (name, place), self.faults)
 
+    def see(self, name: str) -> None:
+        """Records that this table may have a key."""
+        self.left.discard(name)
+        if name not in self.known:
+            self.known.append(name)
+
     def end(self) -> None:
         """Reports each key that wasn't read."""
         for name in self.table:
             if name in self.left:
-                self.faults.add(self.path + (name,), "isn't a key of a house file")
+                here = f"; the keys here are {', '.join(self.known)}" if 0 < len(self.known) < MANY else ""
+                self.faults.add(self.path + (name,), f"isn't a key of {self.faults.kind}{here}")

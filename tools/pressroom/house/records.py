@@ -1,7 +1,7 @@
 """The keys of a house file, as the dataclasses that hold them: type, what is accepted, meaning and default.
 
-Lengths are millimetres, limits and curves percent. `rows` lists all keys, for documents. The night's own keys are in
-pressroom.night.night_keys.
+Lengths are millimetres, limits and curves percent. `rows` lists all keys of the house file, for documents.
+`EditionKeys` are those of an edition's own file.
 """
 import re
 from collections.abc import Iterator
@@ -13,6 +13,7 @@ from pressroom.house.forms import (
     NAMES,
     COLOUR,
     CURVE,
+    DAY,
     EDITION,
     INK_LETTERS,
     LENGTH,
@@ -20,6 +21,8 @@ from pressroom.house.forms import (
     PATTERN,
     PERCENT,
     SEPARATION,
+    TARGET,
+    TIME,
     TRUTH,
     listed,
     matching,
@@ -28,11 +31,15 @@ from pressroom.house.forms import (
     one_of,
     whole,
 )
-from pressroom.house.house_keys import REQUIRED, Key, key, keys_of
+from pressroom.house.house_keys import REQUIRED, Key, key, key as own_key, keys_of
 
 INKS = "CMYKS"
 NAMED_SCREENS = ("bayer2", "bayer4", "bayer8", "bayer16", "diffuse")
 LARGEST_TILE = 64
+SECONDS = number(0, 86400, "a number of seconds, 0 to 86400")
+ABSOLUTE = matching(r"/[^\x00-\x1f]*", "an absolute path")
+PLACES_WORDS = 'a list of pages such as "A10" or "west/A10"'
+PLACES = listed(matching(".*", PLACES_WORDS), PLACES_WORDS, range(4096))
 MOST_MARKS, MOST_SECTIONS, MOST_SITES = 64, 8, 16
 
 
@@ -80,13 +87,27 @@ class Press:
     marks: tuple[Mark, ...]
 
 
+@dataclass(frozen=True, kw_only=True)
+class Deadline:
+    """When a site's press starts, and what the night takes into account before that."""
+
+    press_start: str | None = key(TIME, "when the site's press starts", None)
+    lead: float = key(
+        number(0, 1440, "a number of minutes, 0 to 1440"), "minutes from the last plate to that", 0.0
+    )
+    plate_seconds: float = key(
+        number(0, 3600, "a number of seconds, 0 to 3600"), "seconds for a plate at the site", 0.0
+    )
+
+
 @dataclass(frozen=True)
 class Site:
-    """A print site, its press, and its zone or None."""
+    """A print site, its press, its zone or None, and its deadline."""
 
     name: str
     press: str
     zone: str | None
+    deadline: Deadline
 
 
 @dataclass(frozen=True, kw_only=True)
@@ -164,12 +185,51 @@ class InkKeys:
 
 
 @dataclass(frozen=True, kw_only=True)
+class Night:
+    """How the night's service treats an edition, `[night]`."""
+
+    approve: bool = key(TRUTH, "whether each page waits for a person's approval", False)
+    date: str | None = key(DAY, "the date of editions that have none", None)
+    deliver: str = key(one_of("pair", "edition"), "what leaves together", "pair")
+    alert: float = key(SECONDS, "seconds of waiting after which the service reports", 300.0)
+    settle: float = key(
+        number(0.1, 3600, "a number of seconds, 0.1 to 3600"), "seconds in which a file is unchanged", 2.0
+    )
+    least_free: float = key(
+        number(0, 10**9, "a number of megabytes"),
+        "megabytes of the spool's disk below which it warns",
+        2000.0,
+    )
+    keep: int = key(whole(1, 1000), "how many closed editions are kept", 14)
+    metrics: str | None = key(ABSOLUTE, "the absolute path of a file of gauges", None)
+
+
+@dataclass(frozen=True, kw_only=True)
+class Delivery:
+    """What ways to sites have in common, `[delivery]`."""
+
+    port: int | None = own_key(whole(1, 65535, "a port, 1 to 65535"), "ssh's port", None)
+    key: str | None = own_key(
+        matching(r"/[^\x00-\x1f]*", "the absolute path of a private key of ssh"), "ssh's private key", None
+    )
+    bandwidth: int | None = own_key(whole(1, 10**7, "a whole number of KB a second"), "KB a second", None)
+    timeout: float = own_key(
+        number(1, 3000, "a number of seconds, 1 to 3000"), "seconds after which a call is given up", 900.0
+    )
+
+
+@dataclass(frozen=True, kw_only=True)
 class House(Sheet, Colour):
-    """A house file that passed all tests."""
+    """A house file that passed all tests. `zone_pages` has the pages of each zone as the file lists them, `targets`
+    the target of each site that is delivered to."""
 
     path: str
     sections: dict[str, int]
     check: Check
+    night: Night
+    delivery: Delivery
+    zone_pages: dict[str, tuple[str, ...]]
+    targets: dict[str, str]
     blank: frozenset[Place] = field(default_factory=frozenset)
     spot: Spot | None
     sites: tuple[Site, ...]
@@ -202,12 +262,16 @@ class House(Sheet, Colour):
         return None
 
 
+@dataclass(frozen=True, kw_only=True)
+class EditionKeys:
+    """The keys of an edition's own file, edition.toml, besides its tables of sections and zones. A key that is absent
+    is the house's."""
+
+    date: str | None = key(DAY, "the edition's date", None)
+    blank: tuple[str, ...] | None = key(PLACES, "pages that have no file", None)
+
+
 PAGES = whole(2, 128, "an even number of pages, 2 to 128", step=2)
-BLANK = listed(
-    matching(".*", 'a list of pages such as "A10" or "west/A10"'),
-    'a list of pages such as "A10" or "west/A10"',
-    range(4096),
-)
 SCREEN = matching(
     "|".join(NAMED_SCREENS), "one of " + ", ".join(NAMED_SCREENS) + " or { angle = A, ruling = R }"
 )
@@ -215,13 +279,15 @@ LIMIT = Key(PERCENT, "ink limit", 400)
 ZONE = Key(NAME, "the site's zone", None)
 # The keys whose names a house chooses, and those that need others to be read.
 OTHERS = {
-    "blank": Key(BLANK, "pages that have no file", ()),
+    "blank": Key(PLACES, "pages that have no file", ()),
     "limit": LIMIT,
     "sections.NAME": Key(PAGES, "pages of a section"),
     "screens.INK": Key(SCREEN, "the screen of an ink, by name", "bayer8"),
     "curves.INK": Key(CURVE, "the curve of an ink: points [percent, percent]", None),
     "sites.NAME.press": Key(NAME, "the site's press, if there are several", None),
     "sites.NAME.zone": ZONE,
+    "zones.NAME": Key(PLACES, "the pages that a zone has of its own"),
+    "delivery.sites.NAME": Key(TARGET, "the way to a site"),
 }
 TABLES: dict[str, type] = {
     "": Sheet,
@@ -231,6 +297,9 @@ TABLES: dict[str, type] = {
     "screens.INK": Screen,
     "marks": Mark,
     "keys": InkKeys,
+    "night": Night,
+    "delivery": Delivery,
+    "sites.NAME": Deadline,
 }
 # What one press has of its own, in a table [press.NAME].
 OF_A_PRESS = ("limit", "screens.INK", "curves.INK", "marks")

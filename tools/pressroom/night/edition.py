@@ -15,16 +15,18 @@ from dataclasses import dataclass, replace
 from typing import Any
 
 from pressroom import __version__
-from pressroom.house.house import House
+from pressroom.house.forms import DAY, NAME, Wrong
+from pressroom.house.house import House, read_text, read_zones
+from pressroom.house.house_keys import Keys
+from pressroom.house.records import MOST_SECTIONS, OTHERS, EditionKeys
 from pressroom.intake import state
 from pressroom.intake.pages import Names
 from pressroom.intake.second import PROGRAM as SECOND
-from pressroom.night import pair_plans, toml_keys
-from pressroom.night.night_keys import Deadline, NightHouse, house_of
+from pressroom.night import pair_plans
+from pressroom.night.house_reader import Fault, NightHouse, faults_in_a_line, house_of
 from pressroom.night.ready import complete_text, ready_text
 from pressroom.night.records import EDITION_FILE, Page, PageKey, Pair, Plan, Planned, Render, Site
 from pressroom.night.take import kind_of
-from pressroom.night.toml_keys import Fault, Table
 
 __all__ = [
     "Fault",
@@ -38,7 +40,7 @@ __all__ = [
     "version_of",
     "whole_plan",
 ]
-KEYS = ("date", "sections", "zones", "blank")
+FILE = "edition.toml"
 DATE = re.compile(r"(?<!\d)\d{4}-\d{2}-\d{2}(?!\d)")
 # The programs on whose versions a render depends.
 RENDERERS = ("gs", "qpdf", "pdfinfo", "tiffcp")
@@ -52,7 +54,7 @@ class Own:
     sections: Mapping[str, int] | None
     zones: Mapping[str, tuple[str, ...]] | None
     blank: tuple[str, ...] | None
-    table: Table
+    keys: Keys
 
 
 def planned(house: NightHouse, text: str | None, name: str) -> Planned:
@@ -60,12 +62,13 @@ def planned(house: NightHouse, text: str | None, name: str) -> Planned:
 
     Raises Fault with file, line and key, and OSError where a program is missing.
     """
-    own = own_of(house.house, text)
-    date = date_of(house, own, name)
-    sections = own.sections if own.sections is not None else house.house.sections
-    pages = planned_pages(house, own, sections)
+    with faults_in_a_line():
+        own = own_of(house.house, text)
+        date = date_of(house.house, own, name)
+        sections = own.sections if own.sections is not None else house.house.sections
+        pages = planned_pages(house.house, own, sections)
     sites = tuple(
-        site_of(site.name, site.press, site.zone, house.deadlines[site.name]) for site in house.house.sites
+        Site(site.name, site.press, site.zone or "", **vars(site.deadline)) for site in house.house.sites
     )
     dated = dated_house(house, date, sections)
     keys = {page.key for page in pages}
@@ -87,7 +90,7 @@ def planned(house: NightHouse, text: str | None, name: str) -> Planned:
         pairs=pairs,
         settings=settings(house.house),
         ask=house.night.approve,
-        deliver=house.night.deliver,
+        deliver="edition" if house.night.deliver == "edition" else "pair",
     )
 
 
@@ -95,64 +98,65 @@ def planned(house: NightHouse, text: str | None, name: str) -> Planned:
 
 
 def own_of(house: House, text: str | None) -> Own:
-    """Reads edition.toml; without a text it says nothing."""
+    """Reads edition.toml; without a text it says nothing. Raises HouseFault."""
     if text is not None and len(text.encode("utf-8", "surrogatepass")) > EDITION_FILE:
-        raise Fault(f"edition.toml: more than {EDITION_FILE} bytes")
-    table = toml_keys.tables("edition.toml", text or "")
-    date = table.take("date", None, toml_keys.day, "a date, such as 2026-12-03")
-    sections = own_sections(table) if "sections" in table.table else None
-    zones = own_zones(house, table) if "zones" in table.table else None
-    pages = table.take("blank", None, toml_keys.texts, 'a list of pages, such as ["A10", "west/A12"]')
-    table.end(KEYS)
-    return Own(date, sections, zones, None if pages is None else tuple(pages), table)
+        raise Fault(f"{FILE}: more than {EDITION_FILE} bytes")
+    keys = read_text(text or "", FILE, "an edition's own file")
+    values = keys.fill(EditionKeys)
+    sections, zones = own_sections(keys), read_zones(keys, house.zones())
+    has_sections, has_zones = "sections" in keys.table, "zones" in keys.table
+    keys.end()
+    keys.faults.end()
+    return Own(
+        values["date"],
+        sections if has_sections else None,
+        zones if has_zones else None,
+        values["blank"],
+        keys,
+    )
 
 
-def own_sections(table: Table) -> dict[str, int]:
-    """Reads [sections]: the page count of each."""
-    inner = table.inside("sections")
-    found = {}
+def own_sections(keys: Keys) -> dict[str, int]:
+    """Reads the table of sections: the page count of each."""
+    inner = keys.inside("sections")
+    if "sections" in keys.table and not 1 <= len(inner.table) <= MOST_SECTIONS:
+        keys.faults.add(inner.path, "an edition has 1 to 8 sections, each `NAME = PAGES`")
     for name in inner.table:
-        if not re.fullmatch(r"[A-Za-z0-9_]{1,16}", name):
-            raise inner.fault(name, "isn't a name of 1 to 16 letters, digits and _")
-        count = inner.take(name, 0, toml_keys.whole(2, 128), "an even number of pages, 2 to 128")
-        if count % 2:
-            raise inner.fault(name, f"{count} isn't an even number of pages, 2 to 128")
-        found[name] = count
-    if not 1 <= len(found) <= 8:
-        raise table.fault("sections", "an edition has 1 to 8 sections, each `NAME = PAGES`")
-    return found
+        try:
+            NAME.read(name)
+        except Wrong as error:
+            keys.faults.add((*inner.path, name), str(error))
+    return {name: inner.take(name, OTHERS["sections.NAME"]) for name in inner.table}
 
 
-def own_zones(house: House, table: Table) -> dict[str, tuple[str, ...]]:
-    """Reads [zones]: the pages of each zone that a site has."""
-    inner = table.inside("zones")
-    for zone in inner.table:
-        if zone not in house.zones():
-            raise inner.fault(zone, f"no site has this zone; they are {', '.join(house.zones())}")
-    words = 'a list of pages, such as ["A02", "A07"]'
-    return {zone: tuple(inner.take(zone, [], toml_keys.texts, words)) for zone in inner.table}
-
-
-def date_of(house: NightHouse, own: Own, name: str) -> str | None:
+def date_of(house: House, own: Own, name: str) -> str | None:
     """Returns the edition's date: its own, or that in its folder's name, or the house's."""
-    named = [found for found in DATE.findall(name) if toml_keys.day(found)]
+    named = [found for found in DATE.findall(name) if is_day(found)]
     if own.date and named and own.date not in named:
-        raise own.table.fault("date", f"{own.date}, but the folder's name is {name}")
+        own.keys.faults.stop(("date",), f"{own.date}, but the folder's name is {name}")
     return own.date or (named[0] if named else house.night.date)
+
+
+def is_day(text: str) -> bool:
+    """Returns whether a text is a date of the calendar."""
+    try:
+        return bool(DAY.read(text))
+    except Wrong:
+        return False
 
 
 # ---- pages, sites and pairs
 
 
-def planned_pages(house: NightHouse, own: Own, sections: Mapping[str, int]) -> list[Page]:
+def planned_pages(house: House, own: Own, sections: Mapping[str, int]) -> list[Page]:
     """Returns the common pages and those of zones, in order. Pages of the house's lists that this edition is
     too short for are left out; in the edition's own lists they are a fault."""
-    zones = house.zones if own.zones is None else own.zones
+    zones = house.zone_pages if own.zones is None else own.zones
     blank = {page_key(sections, text) for text in own.blank or ()}
     if own.blank is None:
-        places = ((place.zone or "", place.section, place.page) for place in house.house.blank)
+        places = ((place.zone or "", place.section, place.page) for place in house.blank)
         blank = {PageKey(*place) for place in places if place[2] <= sections.get(place[1], 0)}
-    see_own(own, sections, house.house)
+    see_own(own, sections, house)
     keys = [
         PageKey("", section, number) for section, count in sections.items() for number in range(1, count + 1)
     ]
@@ -167,16 +171,17 @@ def planned_pages(house: NightHouse, own: Own, sections: Mapping[str, int]) -> l
 
 
 def see_own(own: Own, sections: Mapping[str, int], house: House) -> None:
-    """Raises the fault of a page in the edition's own lists that it doesn't have."""
+    """Raises the faults of pages in the edition's own lists that it doesn't have."""
     for text in own.blank or ():
         key = page_key(sections, text)
         if key is None or key.zone not in ("", *house.zones()):
-            raise own.table.fault("blank", f"{text!r} isn't a page of this edition")
+            own.keys.faults.add(("blank",), f"{text!r} isn't a page of this edition")
     for zone, texts in (own.zones or {}).items():
         for text in texts:
             key = page_key(sections, text)
             if key is None or key.zone:
-                raise own.table.inside("zones").fault(zone, f"{text!r} isn't a page of this edition")
+                own.keys.faults.add(("zones", zone), f"{text!r} isn't a page of this edition")
+    own.keys.faults.end()
 
 
 def page_key(sections: Mapping[str, int], text: str) -> PageKey | None:
@@ -187,11 +192,6 @@ def page_key(sections: Mapping[str, int], text: str) -> PageKey | None:
         if found and int(found[1]) <= sections[section]:
             return PageKey(zone, section, int(found[1]))
     return None
-
-
-def site_of(name: str, press: str, zone: str | None, deadline: Deadline) -> Site:
-    """Returns a site with its deadline."""
-    return Site(name, press, zone or "", deadline.press_start, deadline.lead, deadline.plate_seconds)
 
 
 def pair_pages(
@@ -266,9 +266,9 @@ def whole_plan(house: NightHouse, edition: Planned, site: str, renders: Mapping[
 
 def dated_house(house: NightHouse, date: str | None, sections: Mapping[str, int]) -> House:
     """Returns the house of one edition: with its date in the plans' edition, and its sections."""
-    if "{date}" in house.edition and date is None:
+    if "{date}" in house.house.edition and date is None:
         raise Fault("house.toml: edition: it has {date}, and the edition has no date")
-    edition = house.edition.replace("{date}", (date or "").replace("-", ""))
+    edition = house.house.edition.replace("{date}", (date or "").replace("-", ""))
     return replace(house.house, edition=edition, sections=dict(sections))
 
 

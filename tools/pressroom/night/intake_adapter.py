@@ -8,9 +8,7 @@ from pressroom.base.console import Missing, need
 from pressroom.house.house import House
 from pressroom.intake.intake import PROGRAMS, Intake, see_libraries
 from pressroom.base.limits import Limits, Passed
-from pressroom.night import toml_keys
-from pressroom.night.house_reader import read_tables
-from pressroom.night.night_keys import without_own
+from pressroom.night.house_reader import Fault, page_house
 from pressroom.night.records import Layer
 from pressroom.intake.pdf import Refused
 from pressroom.intake.second import PROGRAM as SECOND
@@ -50,14 +48,15 @@ def made(text: str, profile: str | None, name: str, kind: str, folder: str) -> A
     try:
         need(*PROGRAMS)
         see_libraries()
-        house = house_of(text, profile and os.path.join(folder, profile), folder)
+        own = os.path.join(folder, profile) if profile else None
+        house = page_house(text, os.path.join(folder, "house.toml"), own)
         page = Page(house, folder)
         if page.opinion.missing and house.check.second == "fault":
             return NoVerdict(f"{SECOND} is not installed")
         found = (
             bitmaps.made_of(house, LIMITS, name, folder) if kind == "tiff" else page.rendered(name, folder)
         )
-    except (toml_keys.Fault, Missing) as error:
+    except (Fault, Missing) as error:
         return NoVerdict(str(error))
     except Passed as error:
         return NoVerdict(f"limit: {error}")
@@ -77,16 +76,6 @@ class Page(Intake):
 
     def __init__(self, house: House, folder: str) -> None:
         super().__init__(house, None, LIMITS, 0)
-
-
-def house_of(text: str, profile: str | None, folder: str) -> House:
-    """Reads a house file from its text as intake needs it, with its profile at another path."""
-    file = os.path.join(folder, "house.toml")
-    top = toml_keys.tables(file, text)
-    tables = without_own(top.table, "PAGE")
-    if profile and isinstance(tables.get("colour"), dict):
-        tables["colour"] = tables["colour"] | {"profile": profile}
-    return read_tables(file, text, tables)
 
 
 def note_text(kind: str, text: str, box: Sequence[float] | None) -> str:

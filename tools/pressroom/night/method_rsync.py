@@ -15,6 +15,8 @@ from typing import Any
 from pressroom.night.bounded import Late, TooMuch, call
 from pressroom.night.method import ACK, READY, SUMS, Fault, Seen, is_complete
 
+# ssh's own status.
+SSH_FAILED = 255
 # rsync's statuses (errcode.h of rsync 3.2, and its manual), and whether the site or the way to it is at fault.
 STATUSES: dict[int, tuple[str, bool]] = {
     1: ("rsync doesn't take these options", False),
@@ -43,7 +45,7 @@ STATUSES: dict[int, tuple[str, bool]] = {
     125: ("the remote command was killed", True),
     126: ("the remote command can't be run", True),
     127: ("rsync isn't installed there", True),
-    255: ("ssh can't reach it", True),
+    SSH_FAILED: ("ssh can't reach it", True),
 }
 # A line of --itemize-changes: what happens, what it is, nine letters of what differs, and its name.
 ITEM = re.compile(r"[<>ch.*]f(\+{9}|[.a-zA-Z?+]{9}) (.*)")
@@ -169,10 +171,10 @@ def fault_of(status: int, note: bytes) -> Ended:
         why = "the site's host key " + ("has changed" if CHANGED_KEY in text else "isn't known")
         network = True
     else:
-        line = next((line for line in text.split("\n") if line.strip(" @")), "")
-        # Where ssh ends before rsync wrote to it, rsync's status is that of a broken pipe.
-        told = 255 if status == 12 and line.startswith("ssh: ") else status
-        why, network = STATUSES.get(told, (f"rsync ended with status {status}", True))
+        line = next((line for line in text.split("\n") if line.strip(" @\r")), "").rstrip("\r")
+        # Where ssh can't reach a site, rsync ends with ssh's status, or finds its pipe closed first.
+        own = SSH_FAILED if line.startswith("ssh: ") else status
+        why, network = STATUSES.get(own, (f"rsync ended with status {status}", True))
         why += f": {line}" if line else ""
     # With status 1 nothing was begun.
     fault = Ended(why, network=network, host_key=host_key, begun=status != 1)

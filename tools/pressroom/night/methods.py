@@ -1,15 +1,14 @@
 """The methods of delivery by name, and how the house file chooses among them."""
-import re
 from collections.abc import Mapping
 from typing import Any
 
+from pressroom.house.forms import TARGET, Wrong
 from pressroom.night.method import Method
 from pressroom.night.method_folder import Folder
 from pressroom.night.method_rsync import Rsync
 
 # A target belongs to the first that takes it.
 METHODS: dict[str, type[Method]] = {"folder": Folder, "rsync": Rsync}
-TARGET = re.compile(r"[^-\x00-\x1f\x7f][^\x00-\x1f\x7f]{0,999}")
 
 
 def described(target: str, options: Mapping[str, Any]) -> dict[str, Any] | None:
@@ -18,17 +17,25 @@ def described(target: str, options: Mapping[str, Any]) -> dict[str, Any] | None:
     None where no method takes the target. `METHOD:TARGET` names the method; otherwise an absolute path is a
     mounted folder, and all else is for rsync.
     """
-    if not TARGET.fullmatch(target):
+    if not is_target(target):
         return None
     name, colon, rest = target.partition(":")
     if colon and name in METHODS and not rest.startswith("//"):
-        if not TARGET.fullmatch(rest) or not METHODS[name].takes(rest):
+        if not is_target(rest) or not METHODS[name].takes(rest):
             return None
         return {"name": name, "target": rest, **options}
     for name, method in METHODS.items():
         if method.takes(target):
             return {"name": name, "target": target, **options}
     return None
+
+
+def is_target(text: str) -> bool:
+    """Returns whether a text has the form of a target."""
+    try:
+        return bool(TARGET.read(text))
+    except Wrong:
+        return False
 
 
 def method(keys: Mapping[str, Any]) -> Method:

@@ -7,7 +7,7 @@ from typing import Any
 import pytest
 
 from pressroom.night import edition
-from pressroom.night.night_keys import NightHouse
+from pressroom.night.house_reader import NightHouse
 from pressroom.night.ready import version_name
 from pressroom.night.records import Complete, Page, PageKey, Planned, Ready, Render
 
@@ -195,24 +195,33 @@ def test_the_date(text: str | None, name: str, date: str) -> None:
 @pytest.mark.parametrize(
     "text, words",
     [
-        ("date = 2026-12-05", "edition.toml:1: date: 2026-12-05, but the folder's name is MON-2026-12-04"),
-        ('\ndate = "2026-02-30"', "edition.toml:2: date: '2026-02-30' isn't a date, such as 2026-12-03"),
-        ("pages = 3", "edition.toml:1: pages: isn't a key here; the keys are date, sections, zones, blank"),
-        ("[sections]\nA = 5", "edition.toml:2: sections.A: 5 isn't an even number of pages, 2 to 128"),
-        ("[sections]\nA = true", "edition.toml:2: sections.A: True isn't an even number of pages, 2 to 128"),
-        ('[sections]\n"A-B" = 4', "edition.toml:2: sections.A-B: isn't a name of 1 to 16 letters"),
-        ("[sections]", "edition.toml:1: sections: an edition has 1 to 8 sections"),
-        ('[zones]\nwset = ["A02"]', "edition.toml:2: zones.wset: no site has this zone; they are west"),
-        ('[zones]\nwest = ["A09"]', "edition.toml:2: zones.west: 'A09' isn't a page of this edition"),
+        (
+            "date = 2026-12-05",
+            "edition.toml line 1: date: 2026-12-05, but the folder's name is MON-2026-12-04",
+        ),
+        ('\ndate = "2026-02-30"', "edition.toml line 2: date: '2026-02-30' isn't a date, such as 2026-12-03"),
+        (
+            "pages = 3",
+            "edition.toml line 1: pages: isn't a key of an edition's own file; the keys here are date, blank, sections, zones",
+        ),
+        ("[sections]\nA = 5", "edition.toml line 2: sections.A: 5 isn't an even number of pages, 2 to 128"),
+        (
+            "[sections]\nA = true",
+            "edition.toml line 2: sections.A: True isn't an even number of pages, 2 to 128",
+        ),
+        ('[sections]\n"A-B" = 4', "edition.toml line 2: sections.A-B: 'A-B' isn't a name of 1 to 16 letters"),
+        ("[sections]", "edition.toml line 1: sections: an edition has 1 to 8 sections"),
+        ('[zones]\nwset = ["A02"]', "edition.toml line 2: zones.wset: no site has this zone; they are west"),
+        ('[zones]\nwest = ["A09"]', "edition.toml line 2: zones.west: 'A09' isn't a page of this edition"),
         (
             '[zones]\nwest = ["west/A02"]',
-            "edition.toml:2: zones.west: 'west/A02' isn't a page of this edition",
+            "edition.toml line 2: zones.west: 'west/A02' isn't a page of this edition",
         ),
-        ("[zones]\nwest = 2", "edition.toml:2: zones.west: 2 isn't a list of pages"),
-        ('blank = ["north/A02"]', "edition.toml:1: blank: 'north/A02' isn't a page of this edition"),
+        ("[zones]\nwest = 2", "edition.toml line 2: zones.west: 2 isn't a list of pages"),
+        ('blank = ["north/A02"]', "edition.toml line 1: blank: 'north/A02' isn't a page of this edition"),
         ("[sections", "edition.toml: not TOML:"),
-        ("a = " + "[" * 50000, "edition.toml: not TOML: nested too deeply"),
-        ("a = " + "9" * 10000, "edition.toml: not TOML: nested too deeply, or a number that is too long"),
+        ("a = " + "[" * 50000, "edition.toml: not TOML: too many levels"),
+        ("a = " + "9" * 10000, "edition.toml: not TOML: a number of too many digits"),
         ("#" * 65537, "edition.toml: more than 65536 bytes"),
     ],
     ids=lambda text: str(text)[:40],
@@ -230,7 +239,7 @@ def test_faults_of_an_edition_s_own_file(text: str, words: str) -> None:
         (
             "approve = true",
             "tries = 3",
-            "night.tries: isn't a key here; the keys are approve,",
+            "night.tries: isn't a key of a house file; the keys here are approve,",
         ),
         ("lead = 10", 'lead = "ten"', "sites.OSLO.lead: 'ten' isn't a number of minutes"),
         ('"23:30"', '"24:00"', "sites.OSLO.press_start: '24:00' isn't a time, such as"),
@@ -243,7 +252,7 @@ def test_faults_of_an_edition_s_own_file(text: str, words: str) -> None:
         (
             "port = 2222",
             'rsync = ["-e", "sh"]',
-            "delivery.rsync: isn't a key here; the keys are port,",
+            "delivery.rsync: isn't a key of a house file; the keys here are port,",
         ),
         (
             "port = 2222",
@@ -258,7 +267,7 @@ def test_faults_of_the_house_file(old: str, new: str, words: str) -> None:
     line = HOUSE[: HOUSE.index(old)].count("\n") + 1
     with pytest.raises(edition.Fault) as found:
         house(HOUSE.replace(old, new, 1))
-    assert str(found.value).startswith(f"/etc/pressroom/house.toml:{line}: {words}")
+    assert str(found.value).startswith(f"/etc/pressroom/house.toml line {line}: {words}")
 
 
 @pytest.mark.parametrize("cut", range(0, len(HOUSE), 23))

@@ -469,6 +469,14 @@ def test_a_site_whose_disk_is_full(server: Site, monkeypatch: pytest.MonkeyPatch
     assert answer["network"] is True and "failed" in answer
 
 
+@pytest.mark.parametrize("status", [12, 255])
+def test_ssh_that_can_t_reach_a_site_is_told_alike_whatever_rsync_s_status(status: int) -> None:
+    said = b"ssh: connect to host oslo port 22: Connection refused\r\nrsync: connection unexpectedly closed\n"
+    fault = method_rsync.fault_of(status, said)
+    assert str(fault) == "ssh can't reach it: ssh: connect to host oslo port 22: Connection refused"
+    assert fault.network and fault.status == status
+
+
 def test_a_fault_says_whether_anything_began() -> None:
     assert Fault("why").begun and not Fault("why", begun=False).begun
     assert method_rsync.fault_of(1, b"").begun is False and method_rsync.fault_of(12, b"").begun is True
