@@ -1,10 +1,9 @@
 """What editors, operators, uploaders and accidents try at a service that runs, or begins again."""
-import os
 import re
 
 import pytest
-from loop import SITES, World
-from test_service import desk, folder, look, world  # noqa: F401  (fixtures)
+from loop import SITES
+from test_service import desk, look
 
 
 def events(world, name):

@@ -2,28 +2,10 @@
 import json
 import os
 import socket
-import tempfile
 
 import pytest
 from loop import SITES, Crash, World
 from pressroom.night.journal import Busy, Journal
-
-
-@pytest.fixture
-def folder(tmp_path):
-    """A folder in memory where that is possible: the journal syncs each transaction."""
-    memory = "/dev/shm" if os.access("/dev/shm", os.W_OK) else str(tmp_path)
-    with tempfile.TemporaryDirectory(dir=memory) as name:
-        os.mkdir(os.path.join(name, "spool"))
-        yield os.path.join(name, "spool")
-
-
-@pytest.fixture
-def world(folder):
-    made = World(folder)
-    made.open()
-    yield made
-    made.kill()
 
 
 def desk(world, **message):
