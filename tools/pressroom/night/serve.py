@@ -22,7 +22,6 @@ from pressroom.base.command_line import Parser
 from pressroom.night import edition, house_file, houses
 from pressroom.night.book import Book
 from pressroom.night.folders import Folders
-from pressroom.night.house_reader import NightHouse
 from pressroom.night.journal import Busy, Journal, Unusable
 from pressroom.night.runner import Runner
 from pressroom.night.service import Output, Service, watch_signals
