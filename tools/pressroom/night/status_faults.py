@@ -19,9 +19,8 @@ def deadline(made: Sequence[State], name: str | None) -> str | None:
     times = [
         site["leave_by"]
         for pair in made
-        if name in (pair["pair"], *pair["pages"])
         for site in pair["sites"]
-        if site["leave_by"]
+        if site["leave_by"] and name in (pair["pair"], *site["pages"])
     ]
     return min(times, default=None)
 

@@ -77,6 +77,7 @@ def pair_at_site(book: Book, busy: Collection[str], row: Any, pages: Sequence[st
     is_there = state in ("sent", "acknowledged")
     return {
         "site": row["site_name"],
+        "pages": list(pages),
         "state": state,
         "since": events.iso(since),
         "version": row["there"] if is_there else row["open"],
@@ -143,7 +144,7 @@ def pages(book: Book, edition: int, made: Sequence[State]) -> list[State]:
 def page(book: Book, row: Any, made: Sequence[State]) -> State:
     """Returns one page."""
     name = str(PageKey(row["zone"], row["section"], row["number"]))
-    mine = [(pair["pair"], site) for pair in made if name in pair["pages"] for site in pair["sites"]]
+    mine = [(pair["pair"], site) for pair in made for site in pair["sites"] if name in site["pages"]]
     state = page_state(row, [site["state"] for _, site in mine])
     approved = row["verdict"] == "approved"
     version = book.journal.value(
