@@ -10,6 +10,8 @@ UNITS = os.path.join(press.TOP, "package", "systemd")
 # The greatest exposure that `systemd-analyze security` may find, in tenths.
 EXPOSURE = 15
 NAMES = [
+    "pressroom-board.service",
+    "pressroom-board.socket",
     "pressroom-failed@.service",
     "pressroom-night.service",
     "pressroom-page.socket",

@@ -14,6 +14,7 @@ from pressroom.base.faults import Fault
 COMMANDS = {
     "intake": "make plans and files from the PDFs of a night",
     "approve": "approve a page of the night as you saw it",
+    "board": "show the night in a browser, and let editors approve",
     "cancel": "cancel an edition of the night",
     "check": "report every fault of a plan and its files, and what would be lost without a fault",
     "hold": "hold a page of the night until it is released",
@@ -33,8 +34,8 @@ COMMANDS = {
     "web": "make a proof of an edition's plates for the browser",
 }
 
-# Commands that no user gives: a job of the night is started by systemd or by the service.
-INTERNAL = {"job"}
+# Commands that no user gives: a job of the night is started by systemd or by the service, `draw` by the board.
+INTERNAL = {"job", "draw"}
 
 USAGE = """usage: pressroom COMMAND [ARGUMENT ..]
        pressroom help COMMAND

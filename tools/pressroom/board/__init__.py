@@ -1,0 +1,1 @@
+"""The board: the night in a browser, from what the service publishes."""
