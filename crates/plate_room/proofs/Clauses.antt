@@ -1,4 +1,4 @@
--- What each way to end implies for the clauses of `plate_main`.
+-- What each way to end of `plate_main` implies. The laws cite these lemmas.
 use Rattle.std.proofs.Common.{◌≡◌, ◌≢◌, ◌⊎◌, ℕ, List, [], Option, Some, None, IfSome, false, refl, sym, subst, ◌∙◌, ap, inl, inr, arith}
 use Rattle.pr_rack.specs.declared.rack.Rack.{Ghosts}
 use Rattle.cmd_base.specs.declared.refusal.Refusal.{Refusal}

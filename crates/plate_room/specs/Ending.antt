@@ -1,4 +1,4 @@
--- How a run of `plate_main` ends. This is the contract of a private function.
+-- How a call of `plate_main` ends: one of six ways. This is its contract, and the headline of the project.
 use Rattle.std.specs.Prelude.{◌≡◌, ℕ, List, [], Some, Result, Ok, Err, false}
 use Rattle.pr_ports.specs.Sink.{Grew, GrewByPrefix}
 use Rattle.pr_rack.specs.declared.rack.Rack.{Ghosts}
@@ -71,17 +71,30 @@ module _ {R : Type 0} (g : Ghosts R) where
   Answered seen (Err stop.Memory) = IsBroken seen
   Answered seen (Err stop.Printing) = IsSpoilt seen
 
+  -- the six ways to end
   pub data Ending (seen : Seen R) (note : SinkSeen) (status : ℕ) : Type 0 where
+    -- Done: the racks and the output received exactly what the command produces, and no load failed. The
+    -- note is unchanged. The status is 0, or 1 where a site dropped out, or 8 where a plate does not match
     Done : IsFinished seen status → IsSilent note → Ending seen note status
+    -- Refused, the line written whole: the arguments met a refusal with this status, nothing was produced,
+    -- and the note received the refusal's complete line
     Refused : (refusal : Refusal) → status ≡ status_of refusal → IsStopped seen refusal
         → IsNoted note (line_of refusal) → Ending seen note status
-    -- memory ran out while the refusal was reported
+    -- Refused, but memory ran out over the line: nothing was produced, and the note received the start of the
+    -- refusal's line and then of the out-of-memory line
     Untold : (refusal : Refusal) → status ≡ 6 → IsStopped seen refusal
         → IsNotedInPart note (line_of refusal) → Ending seen note status
-    -- the note failed
+    -- Refused, but the note failed: nothing was produced, and the note failed after the start of the
+    -- refusal's line
     NotNoted : (refusal : Refusal) → status ≡ 7 → IsStopped seen refusal → PutFailed note
         → GrewByPrefix note.given note.given' (line_of refusal) → Ending seen note status
-    -- memory ran out in the command
+    -- Memory ran out in the command: nothing was produced, or a part, no load failed, and the note received
+    -- the start of the out-of-memory line
     Wanted : status ≡ 6 → IsBroken seen → IsNotedInPart note [] → Ending seen note status
-    -- the output failed
+    -- The output failed: everything was produced but the complete text, of which the output received the
+    -- start. What the note received is unchanged
     NotPrinted : status ≡ 7 → IsSpoilt seen → note.given' ≡ note.given → Ending seen note status
+
+  -- this holds of each end of a call: whatever it observed, and whatever its note and its status
+  abbrev pub AtEachEnd : (Seen R → SinkSeen → ℕ → Type 0) → Type 0
+  AtEachEnd P = (seen : Seen R) (note : SinkSeen) (status : ℕ) → Ending seen note status → P seen note status

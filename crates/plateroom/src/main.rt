@@ -6,7 +6,9 @@ ghost use Rattle.std.specs.Prelude.{◌≡◌, ◌≤◌, IfOk, length};
 ghost use Rattle.cmd_base.specs.Seen.{AreIdle};
 ghost use Rattle.cmd_base.specs.Status.{IsRefusal, IsStatus};
 
-use plate_room::plate_main;
+use plate_room::{
+    plate_main, plate_main_refused_out, plate_main_refused_racks, plate_main_statuses,
+};
 use pr_ports::{FileLoader, HostShelf, Sink, WriterSink};
 use pr_rack::{HostRack, Rack};
 use std::alloc::{AllocError, Global};
@@ -69,6 +71,9 @@ fn run<T: Threads + Clock + Sync, L: FileLoader + Drop, R: Rack + Send, S: Sink,
     ensures refused_racks { IsRefusal result → racks.new ≡ racks.old }
     ensures refused_out { IsRefusal result → S.given out.new ≡ S.given out.old }
 {
+    plate_main_statuses::<R>();
+    plate_main_refused_racks::<R>();
+    plate_main_refused_out::<R>();
     let mut shelf = HostShelf::new(files);
     plate_main(rt, alloc, words, &mut shelf, racks, out, note)
 }
