@@ -11,7 +11,7 @@ import pytest
 from test_house import HOUSE
 from tiffs import plate_bytes
 
-from pressroom.front import COMMANDS
+from pressroom.front import COMMANDS, INTERNAL
 
 ENTRY = Path(__file__).parents[1] / "pressroom.py"
 LATIN = b"Z\xfcrich"
@@ -45,6 +45,21 @@ CALLS: dict[str, list[list[str]]] = {
     "parts": [["FILE", "OUT"]],
     "ppf": [["PLATES", "OUT"], ["PLATE", "OUT", "--house", "FILE"], ["FILE", "OUT"]],
     "proof": [["SITE", "OUT.png"], ["FILE", "OUT.png"]],
+    "night": [
+        ["SPOOL", "--house", "HOUSE", "--for", "0.2"],
+        ["NEW", "--house", "FILE", "--for", "0.2"],
+        ["FILE", "--house", "HOUSE", "--for", "0.2"],
+    ],
+    "status": [["SPOOL"], ["FILE", "MON", "A-001"]],
+    "hold": [["SPOOL", "FILE", "FILE", "--word", "FILE"], ["FILE", "MON", "A01"]],
+    "release": [["SPOOL", "MON", "A01", "--arrival", "4294967296"]],
+    "approve": [["SPOOL", "FILE", "FILE", "--arrival", "-1"]],
+    "reject": [["SPOOL", "MON", "A01", "--word", "FILE"]],
+    "resend": [["SPOOL", "FILE", "FILE", "FILE", "K", "--reason", "FILE"]],
+    "cancel": [["SPOOL", "FILE"]],
+    "house": [["SPOOL", "--apply", "FILE"]],
+    "migrate": [["SPOOL", "--again", "FILE"]],
+    "job": [["FILE"]],
     "tile": [["K", "--angle", "45", "--ruling", "100", "--wedge", "FILE/x.png"]],
     "web": [
         ["PLATES", "OUT"],
@@ -64,6 +79,8 @@ class Room:
         self.put(folder / name)
         for place in ("in/A01.pdf", "in/A02.tif", "in/files/x", "work/p.json", "work/files/a.tif"):
             self.put(folder / place)
+        for place in ("spool/journal/night.db", "spool/in/MON/edition.toml", "spool/in/MON/A01.pdf"):
+            self.put(folder / place)
         for place in ("plates/OSLO/E1-A-001-K.tif", "plates/OSLO/E1-A-001-C.tif"):
             self.put(folder / place)
         (folder / "plate" / "OSLO").mkdir(parents=True)
@@ -73,6 +90,7 @@ class Room:
         (folder / "stub").chmod(0o755)
         names = {"FILE": name, "HOUSE": "house.toml", "IN": "in", "WORK": "work", "OUT": "new/out"}
         names |= {"PLATES": "plates", "PLATE": "plate", "SITE": "plates/OSLO", "OUT.png": "out.png"}
+        names |= {"SPOOL": "spool", "NEW": "new/spool"}
         self.paths = names | {"FILE/x.png": f"{name}/x.png"}
 
     def put(self, path: Path) -> None:
@@ -102,10 +120,7 @@ def lacks(command: str) -> str:
 
 
 def test_each_command_has_calls() -> None:
-    """The night has tests of its own."""
-    assert set(CALLS) >= {"intake", "check", "late", "make", "parts", "ppf", "proof", "tile", "web"} & set(
-        COMMANDS
-    )
+    assert set(CALLS) == set(COMMANDS) | INTERNAL
 
 
 @pytest.mark.parametrize("name", [*DATA, "a FIFO"])

@@ -74,6 +74,7 @@ EDITS = [
     ('edition = "E1"', 'edition = "E1"\nblank = ["A9"]', r"line 2: blank: 'A9' isn't a page of this house"),
     ('edition = "E1"', 'edition = "E1"\nnames = "{page}"', r"line 2: names: '\{page\}' isn't a pattern"),
     ('edition = "E1"', "edition = 1", r"line 1: edition: 1 isn't a name of 1 to 16 letters"),
+    ("gutter = 2", "gutter = true", r"line 5: gutter: True isn't a length"),
     ("dpi = 300", "dpi = true", r"line 2: dpi: True isn't a whole number"),
     ("A = 2", "A = 130", r"line 8: sections\.A: 130 isn't an even number of pages, 2 to 128"),
     ("A = 2", '"A b" = 2', r"line 8: sections\.A b: 'A b' isn't a name"),

@@ -1,6 +1,7 @@
 """The TIFF reader: rows as they were written, and files that are damaged or hostile."""
 import os
 import resource
+import struct
 from pathlib import Path
 
 import numpy
@@ -77,6 +78,22 @@ def test_uncompressed_and_first_of_a_tag(tmp_path: Path) -> None:
     image = Tiff(write(tmp_path / "a.tif", tiff_bytes(fields, b"".join(ROWS), ">")))
     assert list(image.rows()) == ROWS
     assert image.rational(282) == 1200
+
+
+def test_the_first_of_a_tag_counts(tmp_path: Path) -> None:
+    """The last field, in the place of tag 283, says another width."""
+    fields = plate_fields(24, 5, STRIPS, 2)
+    data = tiff_bytes(fields, b"".join(STRIPS))
+    last = int.from_bytes(data[4:8], "little") + 2 + 12 * (len(fields) - 1)
+    data = data[:last] + struct.pack("<HHII", 256, LONG, 1, 99) + data[last + 12 :]
+    assert Tiff(write(tmp_path / "a.tif", data)).width == 24
+
+
+def test_a_row_that_is_too_short_is_refused(tmp_path: Path) -> None:
+    strips = [packed(ROWS[0][:2])]
+    path = write(tmp_path / "a.tif", tiff_bytes(plate_fields(24, 1, strips, 1), strips[0]))
+    with pytest.raises(Broken, match="strip 0 is too short"):
+        list(Tiff(path).rows())
 
 
 @pytest.mark.parametrize("name", HOSTILE)

@@ -16,10 +16,13 @@ class Malformed(Exception):
 
 
 def text(message: Message, key: str, default: str | None = None) -> str:
-    """Returns a text of a message."""
+    """Returns a text of a message. Half a character, such as a byte that isn't UTF-8 becomes in JSON, is refused:
+    the journal can't look for it."""
     value = message.get(key, default)
     if not isinstance(value, str) or len(value) > MOST_WORD:
         raise Malformed(f"{key} isn't a text of at most {MOST_WORD} letters")
+    if any("\ud800" <= sign <= "\udfff" for sign in value):
+        raise Malformed(f"{key} isn't UTF-8")
     return value
 
 

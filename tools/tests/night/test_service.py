@@ -223,6 +223,8 @@ def test_commands_have_the_name_of_their_user(world):
         {"command": "hold"},
         {"command": "hold", "edition": "MON", "page": 3},
         {"command": "release", "edition": "MON", "page": "A01", "arrival": True},
+        {"command": "hold", "edition": "Z\udcfcrich", "page": "A01"},
+        {"command": "hold", "edition": "MON", "page": "A01", "word": "\ud800"},
     ],
 )
 def test_a_malformed_command_is_answered(world, message):
@@ -233,6 +235,12 @@ def test_a_malformed_command_is_answered(world, message):
 
 def test_the_look_socket_takes_no_commands(world):
     assert look(world, command="cancel", edition="MON")["status"] == 2
+
+
+def test_half_a_character_stops_nothing(world):
+    """The journal can't look for it; anybody may ask."""
+    assert look(world, ask="status", edition="Z\udcfcrich")["status"] == 2
+    assert look(world, ask="status")["schema"]
 
 
 def test_garbage_on_a_socket_stops_nothing(world):

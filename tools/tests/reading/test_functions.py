@@ -30,6 +30,8 @@ def calculator(text: bytes, outputs: int = 1) -> pikepdf.Object:
         (b"{180 mul cos}", 1, -1),
         (b"{7 exch idiv}", 2, 3),
         (b"{1 lt {4} if 5}", 3, 5),
+        (b"{neg 7 exch idiv}", 2, -3),
+        (b"{5 mul}", 3, 9),
     ],
 )
 def test_calculators(text: bytes, given: float, wanted: float) -> None:
@@ -50,6 +52,9 @@ def test_functions() -> None:
         FunctionType=3, Domain=[0, 1], Functions=[linear, linear], Bounds=[0.5], Encode=[0, 1, 1, 0]
     )
     assert function_of(steps)(np.array([[0.25, 0.75]]))[0].tolist() == [0.5, 0.5]
+    # A bound belongs to the part above it (7.10.4).
+    steps.Encode = [0, 1, 0, 1]
+    assert function_of(steps)(np.array([[0.5]]))[0].tolist() == [0]
     table = pikepdf.Stream(
         pdf,
         bytes([0, 255, 255, 0]),
