@@ -26,6 +26,7 @@ DOCUMENTS = {
     "docs/plan.schema.json": "plan.schema.json",
     "docs/newspaper.png": "newspaper.png",
     "docs/web.png": "web.png",
+    "docs/board.png": "board.png",
 }
 
 # An image's link begins with `!`. A link's place is a path, a fragment or both.
