@@ -16,7 +16,7 @@ synopses. A comment of HTML in the line above a block says more of it:
     <!-- prints, among others -->  the same, with other lines between them
     <!-- until: COMMAND -->   the next block waits until this command succeeds, two minutes at most
 
-In a text to compare, `..` stands for any characters, and times, dates, sums and seconds for any others. PROGRAM
+In a text to compare, `..` matches any characters, and times, dates, sums and seconds for any others. PROGRAM
 is the `plateroom` that the blocks call; `pressroom` is this repository's, and EXAMPLES its examples. A document is a file
 of DOCUMENTS. The
 last line is `N passed, M failed`: a test for each block that runs and each text that is compared.

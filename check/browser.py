@@ -83,6 +83,25 @@ class Page:
         if "pair=" in link:
             self.settle()
 
+    def resize(self, width, height, mobile=False):
+        """Gives the window this size in pixels."""
+        size = {"width": width, "height": height, "deviceScaleFactor": 1, "mobile": mobile}
+        self.driver.execute_cdp_cmd("Emulation.setDeviceMetricsOverride", size)
+        time.sleep(0.2)
+
+    def whole_window(self):
+        """Gives the window the size that it had at first."""
+        self.driver.execute_cdp_cmd("Emulation.clearDeviceMetricsOverride", {})
+        time.sleep(0.2)
+
+    def wait(self, script):
+        """Waits until a script returns something true."""
+        end = time.monotonic() + WAIT
+        while not self.script(script):
+            if time.monotonic() > end:
+                raise TimeoutError(script)
+            time.sleep(0.05)
+
     def box(self):
         """The map's box: left, top, width, height."""
         return [round(value) for value in self.script(BOX)]

@@ -567,9 +567,13 @@ def see_proof(results, program, folder):
     colours = {"C": (0, 255, 255), "M": (255, 0, 255), "Y": (255, 255, 0), "K": (0, 0, 0)}
 
     def colour(shares):
-        return [
-            255 * math.prod(1 - share * (1 - colours[ink][i] / 255) for ink, share in shares.items())
+        # Process inks give all or nothing of a channel's light, and sRGB is a curve of light (IEC 61966-2-1).
+        light = [
+            math.prod(1 - share * (1 - colours[ink][i] // 255) for ink, share in shares.items())
             for i in range(3)
+        ]
+        return [
+            255 * (12.92 * part if part <= 0.0031308 else 1.055 * part ** (1 / 2.4) - 0.055) for part in light
         ]
 
     def near(pixel, wanted):
@@ -724,7 +728,7 @@ def see_memory(results, folder):
 
     with Image.open(out) as picture:
         results.see(
-            picture.size == (1500, 1000) and set(picture.getcolors()) == {(1500000, (128, 128, 128))},
+            picture.size == (1500, 1000) and set(picture.getcolors()) == {(1500000, (188, 188, 188))},
             f"the large plate is {picture.size} of {picture.getcolors()}",
         )
 

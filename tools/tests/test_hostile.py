@@ -113,9 +113,7 @@ class Room:
 
 def lacks(command: str) -> str:
     """A program that a command needs and that isn't installed."""
-    needed = {"web": ["vips"], "intake": ["gs", "qpdf", "pdfinfo", "tiffcp", "prlimit"]}.get(
-        command, ["prlimit"]
-    )
+    needed = {"intake": ["gs", "qpdf", "pdfinfo", "tiffcp", "prlimit"]}.get(command, ["prlimit"])
     return next((name for name in needed if shutil.which(name) is None), "")
 
 

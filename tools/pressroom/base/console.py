@@ -26,7 +26,6 @@ PACKAGES = {
     "prlimit": "util-linux",
     "tiffcp": "libtiff-tools",
     "tiffinfo": "libtiff-tools",
-    "vips": "libvips-tools",
     "rsync": "rsync",
     "make": "make",
     "parallel": "parallel",

@@ -1,7 +1,7 @@
 """Makes a folder in which a browser shows plates, from any web server or straight from a disk.
 
-PLATES is the folder of a run, with a folder for each site, or one site's folder. OUT gets index.html, tiles
-of each plate and the data of the page. Plates that sites share are cut into tiles once. OUT appears when
+PLATES is the folder of a run, with a folder for each site, or one site's folder. OUT gets index.html, blocks
+of each plate and a manifest with their sums. Plates that sites share are cut into blocks once. OUT appears when
 everything is made, and replaces an earlier proof there. A damaged plate is named, and the others are shown.
 
 With --plan the proof shows zones, pages and the ink limit, with --old what changed since an earlier edition.

@@ -1,4 +1,4 @@
-"""Tells pairs that can't leave in time, before they are late."""
+"""Reports pairs that can't leave in time, before they are late."""
 from typing import Any
 
 from pressroom.night import making

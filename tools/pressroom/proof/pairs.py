@@ -5,6 +5,7 @@ from collections.abc import Callable, Iterator
 import numpy
 from numpy.typing import NDArray
 
+from pressroom.proof.light import light_of, screen_of
 from pressroom.proof.names import COLOURS, see_size
 from pressroom.tiff.arrays import Bytes, rows_of
 from pressroom.tiff.tiff import Broken, Tiff
@@ -56,9 +57,9 @@ class Pair:
         for shares in zip(*(shares_of(plate, factor) for plate in self.plates.values())):
             light = numpy.ones((len(shares[0]), 3))
             for ink, share in zip(self.plates, shares):
-                light *= 1 - share[:, None] * (1 - numpy.array(colours[ink]) / 255)
+                light *= 1 - share[:, None] * (1 - light_of(colours[ink]))
             step(1)
-            yield numpy.rint(light * 255).astype(numpy.uint8)
+            yield screen_of(light)
         self.close()
 
     def dots(
@@ -71,8 +72,8 @@ class Pair:
             light = numpy.ones((width, 3))
             for ink, row in zip(self.plates, rows):
                 bits = numpy.unpackbits(numpy.frombuffer(row, numpy.uint8))[x : x + width] == 1
-                light[bits] *= numpy.array(colours[ink]) / 255
-            pixels = numpy.repeat(numpy.rint(light * 255).astype(numpy.uint8), zoom, axis=0)
+                light[bits] *= light_of(colours[ink])
+            pixels = numpy.repeat(screen_of(light), zoom, axis=0)
             step(zoom)
             yield from [pixels] * zoom
         self.close()

@@ -1,11 +1,11 @@
-"""Makes the folder of a proof in the browser: the page, its data and tiles, and Leaflet. The folder appears when
+"""Makes the folder of a proof in the browser: the page, its blocks and manifest, and Leaflet. The folder appears when
 everything is made, and replaces an earlier proof there."""
 import argparse
 import os
 import shutil
 import tempfile
 
-from pressroom.base.console import Console, Missing, need, need_libraries
+from pressroom.base.console import Console, Missing, need_libraries
 from pressroom.tiff.tiff import Broken
 
 LEAFLET = "/usr/share/javascript/leaflet"
@@ -16,8 +16,7 @@ OURS = "index.html", "proof.js"
 
 
 def need_all() -> None:
-    """Raises Missing for a program, a library or Leaflet that isn't installed."""
-    need("vips")
+    """Raises Missing for a library or Leaflet that isn't installed."""
     need_libraries("numpy", "PIL")
     if not os.path.exists(os.path.join(LEAFLET, "leaflet.min.js")):
         raise Missing("Leaflet is not installed: apt-get install libjs-leaflet")

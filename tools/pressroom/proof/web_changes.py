@@ -1,14 +1,15 @@
-"""The differences between plates and those of an earlier edition, as images of dots that came and that went."""
+"""The differences between plates and those of an earlier edition: the dots that came and those that went."""
 import os
 from collections.abc import Iterator
 from concurrent.futures import Executor
 from typing import TYPE_CHECKING, TypedDict
 
 import numpy
+from numpy.typing import NDArray
 
-from pressroom.proof import web_tiles
+from pressroom.proof.blocks import SIDE, Cut, Sums, Writer
 from pressroom.proof.counts import bands
-from pressroom.proof.plates import Plate, open_plate
+from pressroom.proof.plates import open_plate
 from pressroom.tiff.arrays import Bytes
 from pressroom.tiff.tiff import Broken
 
@@ -16,7 +17,8 @@ if TYPE_CHECKING:
     from pressroom.proof.web_proof import Proof
     from pressroom.proof.web_view import View
 
-ROWS = 256
+# The side in pixels of the squares by which changes are gathered to rectangles.
+SQUARE = 64
 
 
 class Change(TypedDict):
@@ -37,7 +39,9 @@ class Changes:
     def __init__(self, proof: "Proof") -> None:
         self.proof = proof
         self.asked: dict[Asked, Change] = {}
-        self.tiles: dict[str, web_tiles.Tiles] = {}
+        self.sums: dict[str, Sums] = {}
+        # How many dots came or went in each square, by the key of what came or went.
+        self.squares: dict[str, NDArray[numpy.int64]] = {}
         self.paths = {content: path for path, content in proof.contents.items()}
 
     def of(self, view: "View") -> dict[str, Change]:
@@ -67,43 +71,50 @@ class Changes:
         list(self.proof.console.bar(pool.map(one, self.asked.items()), "changes", len(self.asked)))
 
     def compare(self, new: str | None, old: str | None, size: tuple[int, int] | None, change: Change) -> None:
-        """Writes both images of a change, cuts them into tiles, and counts their dots."""
+        """Cuts the dots that came and those that went into blocks, and counts them."""
         if size is None:
             raise Broken("there is no plate to show the change on")
-        plates = [open_plate(self.paths[content]) if content else None for content in (new, old)]
-        for plate in plates:
-            if plate and (plate.width, plate.length) != size:
-                raise Broken(
-                    f"the plates differ in size: {plate.path} has {plate.width} by {plate.length} pixels"
-                )
-        names = [os.path.join(self.proof.folder, f"{change['key']}.{kind}.pbm") for kind in ("came", "went")]
-        try:
-            change["dots"] = counts = self.images(plates, size, names)
-            for kind, name, dots in zip(("came", "went"), names, counts):
-                if dots:
-                    key = f"{change['key']}-{kind}"
-                    folder = os.path.join(self.proof.folder, "tiles", key)
-                    self.tiles[key] = web_tiles.cut_changes(name, folder, *size)
-        finally:
-            for name in names:
-                if os.path.exists(name):
-                    os.remove(name)
-            for plate in filter(None, plates):
-                plate.close()
+        has, had = (self.paths[content] if content else None for content in (new, old))
+        for path in (has, had):
+            see_size_of(path, size)
+        change["dots"] = [
+            self.cut(change["key"], "came", has, had, size),
+            self.cut(change["key"], "went", had, has, size),
+        ]
 
-    def images(self, plates: list[Plate | None], size: tuple[int, int], names: list[str]) -> list[int]:
-        """Writes the dots that came and those that went as bitmaps and returns how many they are."""
-        bare: Bytes = numpy.zeros((ROWS, (size[0] + 7) // 8), numpy.uint8)
-        rows: list[Iterator[Bytes]] = [
-            bands(plate, ROWS) if plate else (bare[: size[1] - y] for y in range(0, size[1], ROWS))
+    def cut(self, key: str, kind: str, has: str | None, lacks: str | None, size: tuple[int, int]) -> int:
+        """Cuts the dots that one plate has and the other doesn't, and returns how many they are."""
+        writer = Writer(self.proof.folder, f"{key}-{kind}")
+        cut = Cut(size, differing(has, lacks, size), writer, [])
+        if cut.total:
+            self.sums[writer.key] = writer.sums
+            self.squares[writer.key] = cut.larger(SQUARE // 8)
+        else:
+            os.rmdir(writer.folder)
+        return cut.total
+
+
+def see_size_of(path: str | None, size: tuple[int, int]) -> None:
+    """Raises Broken unless a plate has this width and length."""
+    if path is None:
+        return
+    plate = open_plate(path)
+    plate.close()
+    if (plate.width, plate.length) != size:
+        raise Broken(f"the plates differ in size: {path} has {plate.width} by {plate.length} pixels")
+
+
+def differing(has: str | None, lacks: str | None, size: tuple[int, int]) -> Iterator[Bytes]:
+    """Yields the dots of one plate that the other doesn't have, as packed rows; a plate that is None is bare."""
+    plates = [open_plate(path) if path else None for path in (has, lacks)]
+    bare: Bytes = numpy.zeros((SIDE, (size[0] + 7) // 8), numpy.uint8)
+    try:
+        rows = [
+            bands(plate, SIDE) if plate else (bare[: size[1] - y] for y in range(0, size[1], SIDE))
             for plate in plates
         ]
-        dots = [0, 0]
-        with open(names[0], "wb") as came, open(names[1], "wb") as went:
-            for file in (came, went):
-                file.write(b"P4\n%d %d\n" % size)
-            for new, old in zip(*rows):
-                for number, (file, bits) in enumerate(((came, new & ~old), (went, old & ~new))):
-                    file.write(bits.tobytes())
-                    dots[number] += int(numpy.unpackbits(bits, axis=1, count=size[0]).sum(dtype=numpy.int64))
-        return dots
+        for a, b in zip(*rows):
+            yield a & ~b
+    finally:
+        for plate in filter(None, plates):
+            plate.close()

@@ -1,61 +1,57 @@
-"""Builds the data, tiles and thumbnails of a proof in the browser from plates."""
+"""Builds the blocks, the pictures and the manifest of a proof in the browser from plates."""
 import argparse
-import base64
 import json
 import os
+import zlib
 from concurrent.futures import Executor, ThreadPoolExecutor
 from typing import TypedDict
 
 from pressroom.base.console import Console
 from pressroom.house.house import read_proof
 from pressroom.plans import sheets
-from pressroom.proof import web_tiles
-from pressroom.proof.counts import Counts
+from pressroom.proof.blocks import SIDE, Cut, Writer, see_blocks
+from pressroom.proof.counts import bands
 from pressroom.proof.names import COLOURS, INK_NAMES
 from pressroom.proof.plates import Site, content_of, open_plate, sites_of
 from pressroom.proof.web_changes import Changes
 from pressroom.proof.web_view import View
 from pressroom.tiff.tiff import Broken
 
-# The sides in pixels of the blocks that are counted, and in blocks of the cells that the page measures by.
-BLOCK, CELL = 8, 8
+# The side in pixels of the squares that the page measures by, and the width of the index's pictures at most.
+CELL = 64
 THUMB = 420
 
 
 class Plate:
-    """A plate by its content: its key in the proof, its size, counts and tiles."""
+    """A plate by its content: its key in the proof, its size, counts and blocks."""
 
     def __init__(self, key: str, path: str, folder: str, keys: list[int]) -> None:
         self.key, self.path = key, path
         plate = open_plate(path)
         try:
             self.width, self.length, self.dpi = plate.width, plate.length, plate.dpi
-            counts = Counts(plate, BLOCK)
+            see_blocks(plate)
+            self.writer = Writer(folder, key)
+            cut = Cut((plate.width, plate.length), bands(plate, SIDE), self.writer, keys)
         finally:
             plate.close()
-        self.total = counts.total()
-        self.keys = {count: counts.keys(count) for count in keys}
-        self.cells = counts.larger(CELL)
-        times = max(1, -(-self.width // (BLOCK * THUMB)))
-        self.shares = counts.larger(times) / counts.areas(times)
-        self.tiles = web_tiles.cut(path, os.path.join(folder, "tiles", key), self.width, self.length)
+        self.total = cut.total
+        cells = cut.larger(CELL // 8)
+        head = {"rows": cells.shape[0], "columns": cells.shape[1], "keys": cut.keys}
+        self.writer.counts(head, cells)
+        times = max(1, -(-self.width // (8 * THUMB)))
+        self.shares = cut.larger(times) / cut.areas(times)
 
     def summary(self) -> dict[str, object]:
         """What the page has of it when it opens."""
-        return {"width": self.width, "length": self.length, "total": self.total, "tiles": self.tiles}
-
-    def write(self, folder: str) -> None:
-        """Writes what the page loads with the pair."""
-        rows, columns = self.cells.shape
-        cells = base64.b64encode(self.cells.astype("<u2").tobytes()).decode()
-        data = {"rows": rows, "columns": columns, "cells": cells, "keys": self.keys}
-        write_script(os.path.join(folder, "data", f"{self.key}.js"), f'proofPlate("{self.key}", ', data, ");")
+        return {"width": self.width, "length": self.length, "total": self.total, "sums": self.writer.sums}
 
 
-def write_script(path: str, front: str, data: object, end: str) -> None:
-    """Writes data as a script, since a page that is opened from a disk can't fetch JSON."""
+def write_manifest(path: str, data: object) -> None:
+    """Writes what the page has when it opens as a text with its sum, in a script."""
+    text = json.dumps(data, separators=(",", ":"))
     with open(path, "w", encoding="ascii") as file:
-        file.write(f"{front}{json.dumps(data, separators=(',', ':'))}{end}\n")
+        file.write(f'proofManifest("{zlib.crc32(text.encode()):08x}",{json.dumps(text)})\n')
 
 
 class Ink(TypedDict):
@@ -104,7 +100,7 @@ class Proof:
 
     def make(self) -> None:
         """Makes everything below the folder, several plates at a time."""
-        for name in ("tiles", "data", "thumbs"):
+        for name in ("plates", "thumbs"):
             os.mkdir(os.path.join(self.folder, name))
         with ThreadPoolExecutor(self.words.jobs) as pool:
             try:
@@ -135,7 +131,7 @@ class Proof:
             self.contents[path] = content
 
     def make_plates(self, pool: Executor) -> None:
-        """Counts each content once, and cuts it into tiles."""
+        """Counts each content once, and cuts it into blocks."""
         first: dict[str, tuple[str, str]] = {}
         keys = self.words.keys or [32]
         for site in self.sites:
@@ -158,7 +154,6 @@ class Proof:
                 self.faults[content] = str(made).removeprefix(f"{first[content][1]}: ")
             else:
                 self.plates[content] = made
-                made.write(self.folder)
 
     def make_views(self) -> None:
         """A view for each pair and the sites that print it from the same plates, and had the same before."""
@@ -189,17 +184,17 @@ class Proof:
         data = {
             "edition": self.sites[0].edition,
             "inks": self.inks,
-            "cell": BLOCK * CELL,
+            "cell": CELL,
             "keys": sorted(set(self.words.keys or [32])),
             "sites": {site.name: self.zone(site.name) for site in self.sites},
             "plates": {plate.key: plate.summary() for plate in self.plates.values()},
             "views": [view.data() for view in self.views],
             "damaged": self.damaged,
             "compared": bool(self.old),
-            "changes": self.changes.tiles,
+            "changes": self.changes.sums,
             "gone": self.gone(),
         }
-        write_script(os.path.join(self.folder, "proof.js"), "const PROOF = ", data, ";")
+        write_manifest(os.path.join(self.folder, "proof.js"), data)
 
     def zone(self, site: str) -> str | None:
         """The zone of a site, None if no plan names one."""

@@ -1,4 +1,5 @@
 """A view of a proof: a pair as some sites print it, with its pages, its changes and its thumbnail."""
+import io
 import os
 from typing import TYPE_CHECKING
 
@@ -6,6 +7,8 @@ import numpy
 from PIL import Image
 
 from pressroom.plans import sheets
+from pressroom.proof.blocks import write_block
+from pressroom.proof.light import light_of, screen_of
 
 if TYPE_CHECKING:
     from pressroom.proof.web_proof import Plate, Proof
@@ -75,17 +78,20 @@ class View:
             return "new"
         return "changed" if any(change["dots"] != [0, 0] for change in self.changes.values()) else "same"
 
-    def thumb(self) -> tuple[str, tuple[int, int]]:
+    def thumb(self) -> dict[str, object]:
         """Writes the picture of the index, in which every ink takes its share of the light."""
         shares = next(iter(self.plates.values())).shares.shape
         light = numpy.ones((*shares, 3))
         for ink, plate in self.plates.items():
-            colour = numpy.array(self.proof.inks[ink]["colour"]) / 255
-            light *= 1 - plate.shares[:, :, None] * (1 - colour)
-        path = f"thumbs/{self.pair}-{self.number}.jpg"
-        picture = Image.fromarray(numpy.rint(light * 255).astype(numpy.uint8))
-        picture.save(os.path.join(self.proof.folder, path), quality=88, optimize=True)
-        return path, picture.size
+            light *= 1 - plate.shares[:, :, None] * (1 - light_of(self.proof.inks[ink]["colour"]))
+        picture, file = Image.fromarray(screen_of(light)), io.BytesIO()
+        picture.save(file, "JPEG", quality=88, optimize=True)
+        path = os.path.join(self.proof.folder, "thumbs", f"{self.number}.js")
+        return {
+            "sum": write_block(path, f"thumbs/{self.number}", file.getvalue()),
+            "width": picture.width,
+            "length": picture.height,
+        }
 
     def data(self) -> dict[str, object]:
         """What the page knows of it."""
@@ -100,14 +106,11 @@ class View:
         }
         if self.plates:
             first = next(iter(self.plates.values()))
-            path, size = self.thumb()
             data |= {
                 "width": first.width,
                 "length": first.length,
                 "dpi": first.dpi,
-                "native": first.tiles["native"],
-                "thumb": path,
-                "thumbSize": size,
+                "thumb": self.thumb(),
             }
         if self.proof.old:
             data |= {"state": self.state(), "changes": self.changes}
