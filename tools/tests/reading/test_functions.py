@@ -53,7 +53,7 @@ def test_functions() -> None:
     )
     assert function_of(steps)(np.array([[0.25, 0.75]]))[0].tolist() == [0.5, 0.5]
     # A bound belongs to the part above it (7.10.4).
-    steps.Encode = [0, 1, 0, 1]
+    steps["/Encode"] = pikepdf.Array([0, 1, 0, 1])
     assert function_of(steps)(np.array([[0.5]]))[0].tolist() == [0]
     table = pikepdf.Stream(
         pdf,
