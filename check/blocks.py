@@ -14,7 +14,8 @@ synopses. A comment of HTML in the line above a block says more of it:
     <!-- status 1, 8 -->      commands of the block end with these statuses other than 0, in this order
     <!-- prints -->           a text block: what the block before it prints, line by line
     <!-- prints, among others -->  the same, with other lines between them
-    <!-- until: COMMAND -->   the next block waits until this command succeeds, two minutes at most
+    <!-- prints, by the job -->    the same of the last block that left a job, in any order
+    <!-- until: COMMAND -->   the block waits until this command succeeds, five minutes at most
 
 In a text to compare, `..` matches any characters, and times, dates, sums and seconds for any others. PROGRAM
 is the `plateroom` that the blocks call; `pressroom` is this repository's, and EXAMPLES its examples. A document is a file
@@ -38,7 +39,7 @@ DOCUMENTS = "docs/MANUAL.md", "examples/newspaper/README.md", "examples/queue/RE
 SECONDS = 900
 
 FENCE = re.compile(r"^( *)```(\w*)$")
-COMMENT = re.compile(r"^ *<!-- (fresh|back|top|not run: .*|status [\d, ]+|prints(?:, among others)?|until: .*) -->$")
+COMMENT = re.compile(r"^ *<!-- (fresh|back|top|not run: .*|status [\d, ]+|prints(?:, among others|, by the job)?|until: .*) -->$")
 # What differs from run to run: dates with times, sums, seconds.
 VARIES = (
     (r"\d{8}\\-\d{6}", r"\\d{8}-\\d{6}"),
@@ -97,7 +98,7 @@ def script(runs: list[Block], logs: str, folder: str) -> str:
         if block.word("top") is not None:
             lines.append(f"cd {TOP}")
         if (command := block.word("until")) is not None:
-            lines.append(f"for turn in $(seq 240); do {{ {command}; }} > {log}.until 2>&1 && break; sleep .5; done")
+            lines.append(f"for turn in $(seq 600); do {{ {command}; }} > {log}.until 2>&1 && break; sleep .5; done")
             lines.append(f"{{ {command}; }} > {log}.until 2>&1 || echo 'never: '{log}.until >> {log}.failed")
         lines.append(f"trap 'echo \"$? $BASH_COMMAND\" >> {log}.failed' ERR")
         lines += ["{", block.text.rstrip("\n"), f"}} > {log} 2>&1 < /dev/null", "trap - ERR", f"touch {log}.ended"]
@@ -124,12 +125,16 @@ def pattern(line: str) -> str:
     return text
 
 
-def compare(wanted: str, output: str, among: bool) -> str:
+def compare(wanted: str, output: str, how: str) -> str:
     """Returns how an output differs from a text, or nothing."""
     lines = [line.rstrip() for line in output.split("\n") if line.strip()]
-    at = 0
+    at, among = 0, "among" in how
     for line in wanted.split("\n"):
         if not line.strip():
+            continue
+        if "job" in how:
+            if not any(re.fullmatch(pattern(line), one) for one in lines):
+                return f"not printed: {line!r}, but {lines[:12]}"
             continue
         begin = at
         while among and at < len(lines) and not re.fullmatch(pattern(line), lines[at]):
@@ -137,17 +142,17 @@ def compare(wanted: str, output: str, among: bool) -> str:
         if at >= len(lines) or not re.fullmatch(pattern(line), lines[at]):
             return f"not printed: {line!r}, but {lines[begin:begin + 3]}"
         at += 1
-    return f"also printed: {lines[at]!r}" if not among and at < len(lines) else ""
+    return f"also printed: {lines[at]!r}" if how == "" and at < len(lines) else ""
 
 
 def judge(count: Count, name: str, all_blocks: list[Block], runs: list[Block], logs: str) -> None:
     """Counts a test for each block that ran, and for each text that was to be printed."""
-    last = ""
+    last = job = ""
     for block in all_blocks:
         where = f"{name}:{block.line}"
         if block in runs:
             log = os.path.join(logs, str(runs.index(block)))
-            last = read(log)
+            last, job = read(log), log if block.text.rstrip().endswith("&") else job
             failed = read(log + ".failed").split("\n")[:-1]
             wanted = [int(word) for word in re.findall(r"\d+", block.word("status") or "")]
             seen = [int(line.split(" ")[0]) if line.split(" ")[0].isdigit() else -1 for line in failed]
@@ -156,7 +161,8 @@ def judge(count: Count, name: str, all_blocks: list[Block], runs: list[Block], l
             else:
                 count.holds(where, f"{failed}: {last[-600:]}" if seen != wanted else "")
         elif (how := block.word("prints")) is not None:
-            count.holds(where, compare(block.text, last, how != ""))
+            output = read(job) if "job" in how else last
+            count.holds(where, compare(block.text, output, how))
 
 
 def see(count: Count, name: str, program: str, room: str) -> None:
