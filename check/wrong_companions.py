@@ -24,6 +24,8 @@ TOP = os.path.normpath(os.path.join(os.path.dirname(os.path.abspath(__file__)), 
 PYTHON = "/usr/bin/python3"
 # The status of pytest where a test failed; others are that tests could not be run.
 FAILED = 1
+# What the tests of a wrong program may take: bytes of memory, seconds.
+MEMORY, SECONDS = 4 << 30, 600
 
 
 class Wrong(NamedTuple):
@@ -106,6 +108,24 @@ WRONG = (
     Wrong("date_of_the_house_first", "night/edition.py", "return own.date or (named[0] if named else house.night.date)", "return house.night.date or own.date", "night/test_edition.py"),
     Wrong("blank_pages_take_files", "night/edition.py", "page.key == key and not page.blank", "page.key == key", "night/test_edition.py"),
     Wrong("methods_that_do_not_take_it", "night/house_reader.py", "        if way is None:", "        if False:", "night/test_edition.py"),
+    # The board.
+    Wrong("request_of_another_site", "board/actions.py", "if site is not None and site not in (\"same-origin\", \"none\"):", "if False:", "board"),
+    Wrong("form_of_another_origin", "board/actions.py", "if origin is not None and urlsplit(origin).netloc != headers.get(\"Host\"):", "if False:", "board"),
+    Wrong("any_token", "board/actions.py", "if not hmac.compare_digest(token.encode(), self.token(user).encode()):", "if False:", "board"),
+    Wrong("user_named_by_anybody", "board/actions.py", "name = headers.get(USER_HEADER, \"\") if self.trusts else \"\"", "name = headers.get(USER_HEADER, \"\")", "board"),
+    Wrong("anybody_may_act", "board/actions.py", "(not self.actors or user in self.actors)", "True", "board"),
+    Wrong("answer_of_another_user", "board/actions.py", "return told if told is not None and told.user == user else None", "return told", "board"),
+    Wrong("cancel_without_its_name", "board/actions.py", "if command == \"cancel\" and form.get(\"again\", \"\").strip() != found[\"edition\"]:", "if False:", "board"),
+    Wrong("refused_command_told_as_done", "board/actions.py", "    if not done and seen:", "    if False:", "board"),
+    Wrong("kept_told_as_acknowledged", "board/view.py", "    \"kept\": \"sent\",", "    \"kept\": \"acknowledged\",", "board"),
+    Wrong("line_ends_in_a_text", "board/view.py", "return one_line(value) if type(value) is str else value", "return value", "board"),
+    Wrong("faults_not_by_time", "board/view.py", "return sorted(items, key=lambda item: (item[\"leave_by\"] or \"9999\", item[\"since\"] or \"9999\"))", "return list(items)", "board"),
+    Wrong("old_status_told_as_live", "board/link.py", "self.fault is None and now - self.at <= LIVE", "self.fault is None", "board"),
+    Wrong("faulty_status_told_as_live", "board/link.py", "self.state is not None and self.fault is None and", "self.state is not None and", "board"),
+    Wrong("any_host", "board/app.py", "if not board.guard.trusts and not HOSTS.fullmatch(request.host):", "if False:", "board"),
+    Wrong("scripts_in_pages", "board/app.py", "script-src 'self'", "script-src 'self' 'unsafe-inline'", "board"),
+    Wrong("page_told_as_unchanged", "board/app.py", "return f\"{seen.stamp}-{minute}", "return f\"{minute}", "board"),
+    Wrong("approval_of_another_file", "board/pages/pair.html", "name=\"arrival\" value=\"{{ page.arrival or '' }}\"", "name=\"arrival\" value=\"{{ page.newest or '' }}1\"", "board"),
 )  # fmt: skip
 
 
@@ -132,9 +152,13 @@ def passed(wrong):
             return fault
         tests = [os.path.join("tools", "tests", test) for test in wrong.tests.split()]
         environment = os.environ | {"PYTHONDONTWRITEBYTECODE": "1", "PLATEROOM": ""}
-        answer = subprocess.run(
-            [PYTHON, "-m", "pytest", "-x", *tests], cwd=folder, capture_output=True, text=True, env=environment
-        )
+        command = ["prlimit", f"--as={MEMORY}", PYTHON, "-m", "pytest", "-x", *tests]
+        try:
+            answer = subprocess.run(
+                command, cwd=folder, capture_output=True, text=True, env=environment, timeout=SECONDS
+            )
+        except subprocess.TimeoutExpired:
+            return f"{wrong.tests} doesn't end in {SECONDS} s"
     if answer.returncode == FAILED:
         return ""
     if answer.returncode == 0:
