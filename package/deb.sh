@@ -38,7 +38,7 @@ programs() {
   # Python takes a script's modules from the folder in which the script itself is, behind all links.
   ln -s ../share/plateroom/tools/pressroom.py "$root/usr/bin/pressroom"
   # pressroom runs the scripts of examples/queue, and must not depend on a file below /usr/share/doc.
-  copy "$own" tools ':!:tools/tests' examples/queue
+  copy "$own" tools ':!:tools/tests' ':!:tools/bin' examples/queue
   # The documents name files of tools/ as seen from the examples.
   ln -s ../../plateroom/tools "$docs/tools"
 }

@@ -35,7 +35,9 @@ DATA = {
 # folders with it as a plan, a page or a file. PLATE is a right folder of plates, OUT is new.
 CALLS: dict[str, list[list[str]]] = {
     "intake": [["FILE", "IN", "OUT"], ["HOUSE", "IN", "OUT", "--wait", "0.1"], ["HOUSE", "FILE", "OUT"]],
+    "board": [["SPOOL", "--listen", "FILE"], ["FILE", "--listen", "127.0.0.1:FILE"]],
     "check": [["FILE", "IN"], ["FILE", "FILE"]],
+    "draw": [["SITE", "OUT"], ["FILE", "OUT"], ["FILE"]],
     "late": [
         ["WORK", "FILE", "OUT"],
         ["WORK", "FILE", "OUT", "--house", "FILE", "--in", "IN"],

@@ -9,6 +9,8 @@ def main() -> int:
     """Draws the plates of the first folder into the second. Returns the status."""
     from pressroom.board.draw import draw
 
+    if len(sys.argv) != 3:
+        raise Fault("usage: pressroom draw PLATES OUT")
     plates, out = sys.argv[1:]
     try:
         draw(plates, out)
