@@ -27,7 +27,8 @@ def words(html: str) -> str:
     "page, word",
     [
         ("A01", "absent"),
-        ("A03", "arrived"),
+        ("A03", "made"),
+        ("A04", "arrived"),
         ("A10", "refused"),
         ("A06", "held"),
         ("A11", "approve"),
