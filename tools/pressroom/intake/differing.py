@@ -9,7 +9,7 @@ differs where it leaves them by more than LEAST in a square of two by two blocks
   the bounds span what the three ways to convert RGB give: C = 1 - R, the house's profile, and black alone. Where
   something is transparent, too, they span what these ways give for any colour that is mixed with white.
 - Where a spot that is mixed is over other ink, the bounds span overprint and knockout.
-- A shading in tints isn't compared where mutool shows it in the four inks, or its spot is mixed.
+- A shading or a table in tints isn't compared where mutool shows it in the four inks, or its spot is mixed.
 - Where spots that are mixed overlap, and may overprint, any more ink is within the bounds.
 """
 from __future__ import annotations
@@ -53,7 +53,7 @@ class Colours:
 class Shows:
     """What a page shows: the place of RGB in millimetres, or None; whether there may be neutral text and line
     art, whether other colours are converted all over the page, whether something is transparent, whether a
-    shading is in tints of colorants, and what the house makes of RGB.
+    shading or a table is in tints of colorants, and what the house makes of RGB.
     """
 
     rgb: tuple[float, ...] | None

@@ -37,7 +37,7 @@ class Inspected:
     degrees, which of the boxes is rendered, whether it may have RGB, whether it has Lab, whether it may have white
     text, its unit in points, whether something may be transparent or overprint, the names of its separations but the
     four inks, a letter for each byte, whether it may have transfer functions, whether a viewer shows it otherwise than it
-    prints, what mutool can't show, and whether it has a shading in tints of colorants.
+    prints, what mutool can't show, and whether a shading or a table is in tints of colorants.
     """
 
     trim: tuple[float, ...]

@@ -32,7 +32,8 @@ INKS = {b"/Cyan", b"/Magenta", b"/Yellow", b"/Black", b"/None"}
 class Facts:
     """What the objects of a page have: transparency, overprint, transfer functions, the names of spots and of the
     separation All, groups that blend in RGB, groups that blend otherwise than in CMYK, whether a picture has alternates,
-    what mutool can't show, whether an object refers to itself, and whether an object was changed.
+    whether a table has tints of colorants, what mutool can't show, whether an object refers to itself, and whether an
+    object was changed.
     """
 
     blends: bool = False
@@ -41,6 +42,7 @@ class Facts:
     rgb_groups: bool = False
     other_groups: bool = False
     alternates: bool = False
+    indexed: bool = False
     circular: bool = False
     changed: bool = False
     spots: set[bytes] = field(default_factory=set)
@@ -88,6 +90,8 @@ def in_array(value: pikepdf.Object, facts: Facts) -> list[pikepdf.Object]:
         facts.spots |= {name(item) for item in names} - INKS - {b""}
         if name(second) == b"/None":
             facts.unlike.add("the separation None")
+    if len(value) > 1 and name(value[0]) == b"/Indexed":
+        facts.indexed |= space_of(value[1]).kind == "other"
     found = []
     for place in range(len(value)):
         item = value[place]

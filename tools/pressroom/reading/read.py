@@ -48,7 +48,7 @@ FORM = pikepdf.Name("/Form")
 class Read(TypedDict):
     """What is read of a page: boxes in units of the page, the unit in points, and what the page shows. `otherwise` is
     whether a viewer shows the PDF otherwise than it prints, `unlike` what mutool can't show, and `tints` whether a shading
-    is in tints of colorants.
+    or a table is in tints of colorants.
     """
 
     trim: tuple[float, float, float, float]
@@ -111,7 +111,7 @@ class Page:
             or facts.alternates
             or self.walk.has("areas"),
             "unlike": sorted(facts.unlike),
-            "tints": self.walk.has("tints"),
+            "tints": self.walk.has("tints") or facts.indexed,
             "fonts": sorted(self.walk.fonts),
             "edited": self.changed,
         }
