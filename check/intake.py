@@ -480,9 +480,11 @@ curves.K = [[0, 0], [50, 40], [100, 100]]
 [press.KBA]
 screens.K = { angle = 45, ruling = 60 }
 [night]
-anything = true
+approve = true
 """
     text = right.replace("[sites.OSLO]\n", '[sites.OSLO]\npress = "KBA"\n[sites.HAMAR]\npress = "GOSS"\n') + presses
+    _, status = intake(pages, text + "anything = true\n", quiet=True)
+    results.see(status == 2 and "night.anything: isn't a key" in pages.said, f"a key of no table: {pages.said!r}")
     found, status = intake(pages, text)
     goss, kba = (fields(os.path.join(pages.work, f"{name}.json")) for name in ("GOSS", "KBA"))
     results.see(status == 0 and goss and kba, f"two presses: {found} {pages.said}")
