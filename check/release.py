@@ -132,7 +132,8 @@ def try_files(trial, root, program, folder):
         asked = subprocess.run(["sh", "-n", path], capture_output=True, text=True)
         trial.holds(name, asked.returncode and asked.stderr)
     for path in said("git", "-C", TOP, "ls-tree", "-r", "-z", "--name-only", "HEAD", "tools").split("\0"):
-        if path.startswith("tools/tests/"):
+        # Tests are for a clone, and so is the folder for its path.
+        if path.startswith(("tools/tests/", "tools/bin/")):
             continue
         there = os.path.exists(os.path.join(root, "usr/share/plateroom", path))
         trial.holds(path, not there and not path.endswith(".gitignore") and "the package hasn't it")
