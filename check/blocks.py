@@ -22,6 +22,7 @@ is the `plateroom` that the blocks call; `pressroom` is this repository's, and E
 of DOCUMENTS. The
 last line is `N passed, M failed`: a test for each block that runs and each text that is compared.
 """
+import importlib.util
 import os
 import re
 import shutil
@@ -37,6 +38,9 @@ from trial import Count
 TOP = os.path.abspath(os.path.join(os.path.dirname(os.path.abspath(__file__)), ".."))
 DOCUMENTS = "docs/MANUAL.md", "examples/newspaper/README.md", "examples/queue/README.md", "examples/tiles/README.md"
 SECONDS = 900
+# What the commands of the documents need.
+PROGRAMS = "gs", "qpdf", "pdfinfo", "tiffcp", "mutool", "convert", "jq", "make", "bwrap"
+LIBRARIES = "PIL", "numpy", "pikepdf"
 
 FENCE = re.compile(r"^( *)```(\w*)$")
 COMMENT = re.compile(r"^ *<!-- (fresh|back|top|not run: .*|status [\d, ]+|prints(?:, among others|, by the job)?|until: .*) -->$")
@@ -177,10 +181,11 @@ def see(count: Count, name: str, program: str, room: str) -> None:
     for path in (folder, logs, bin_folder):
         os.makedirs(path)
     os.symlink(os.path.abspath(program), os.path.join(bin_folder, "plateroom"))
-    os.symlink(sys.executable, os.path.join(bin_folder, "python3"))
-    with open(os.path.join(bin_folder, "pressroom"), "w", encoding="utf-8") as file:
-        file.write(f'#!/bin/sh\nexec {sys.executable} -B "{TOP}/tools/pressroom.py" "$@"\n')
-    os.chmod(file.name, 0o755)
+    python = os.path.realpath(sys.executable)
+    for name, line in ("python3", python), ("pressroom", f'{python} -B "{TOP}/tools/pressroom.py"'):
+        with open(os.path.join(bin_folder, name), "w", encoding="utf-8") as file:
+            file.write(f'#!/bin/sh\nexec {line} "$@"\n')
+        os.chmod(file.name, 0o755)
     environment = {
         **os.environ, "HOME": room, "PATH": f"{bin_folder}:{os.environ['PATH']}", "PLATEROOM": os.path.abspath(program),
         "PYTHONDONTWRITEBYTECODE": "1", "EXAMPLES": os.path.join(TOP, "examples"),
@@ -204,6 +209,11 @@ def main() -> int:
     if len(sys.argv) < 2:
         sys.exit(__doc__)
     count = Count()
+    programs = [name for name in PROGRAMS if shutil.which(name) is None]
+    lacking = programs + [name for name in LIBRARIES if importlib.util.find_spec(name) is None]
+    if lacking:
+        print(f"skipped: not installed: {', '.join(lacking)}")
+        return count.end()
     for name in sys.argv[2:] or DOCUMENTS:
         room = tempfile.mkdtemp(prefix="plateroom-blocks-")
         try:
