@@ -182,8 +182,8 @@ def see(count: Count, name: str, program: str, room: str) -> None:
         os.makedirs(path)
     os.symlink(os.path.abspath(program), os.path.join(bin_folder, "plateroom"))
     python = os.path.realpath(sys.executable)
-    for name, line in ("python3", python), ("pressroom", f'{python} -B "{TOP}/tools/pressroom.py"'):
-        with open(os.path.join(bin_folder, name), "w", encoding="utf-8") as file:
+    for command, line in ("python3", python), ("pressroom", f'{python} -B "{TOP}/tools/pressroom.py"'):
+        with open(os.path.join(bin_folder, command), "w", encoding="utf-8") as file:
             file.write(f'#!/bin/sh\nexec {line} "$@"\n')
         os.chmod(file.name, 0o755)
     environment = {
